@@ -1,0 +1,67 @@
+-- Cuts of a run of writes into commands: what they are, what they take, and which of the shortest is the answer.
+-- All goes by one function, `span`: how many of the first writes one command can carry.
+use mathlib.Core.Path.{_≡_}
+use mathlib.Core.List.{List, [], _∷_}
+use mathlib.Core.Logic.{_⊎_}
+use Prim.Native.Nat.{ℕ, zero, suc, _+_, _-_, _%_, _≤_, _<_}
+use lib.Dec.{ltb}
+use lib.ListN.{length, getD, drop}
+use Rattle.numbers.specs.Pick.{pick}
+
+-- what the laws ask of a span: at least one write, no more than there are, and without its first write a command is still one
+pub record Spans {A : Type 0} (span : List A → ℕ) : Type 0 where
+  pub pos : (a : A) (l : List A) → 1 ≤ span (a ∷ l)
+  pub fits : (l : List A) → span l ≤ length l
+  pub tail : (a : A) (l : List A) → span (a ∷ l) ≤ suc (span l)
+
+-- a command of k writes: the first parameter, the header, k - 1 extra parameters, and one padding word if the words so far are odd in number
+abbrev pub words : ℕ → ℕ
+words k = k + 1 + (k + 1) % 2
+
+-- the words of commands of these sizes
+abbrev pub total : List ℕ → ℕ
+total [] = 0
+total (k ∷ ks) = words k + total ks
+
+-- A CUT: commands of these sizes, one after another, carry exactly the writes l
+abbrev pub Cut : {A : Type 0} → (List A → ℕ) → List A → List ℕ → Type 0
+Cut span l [] = l ≡ []
+Cut span l (k ∷ ks) = (1 ≤ k) × (k ≤ span l) × Cut span (drop k l) ks
+
+-- THE TIE RULE: the first command carries the most writes, then the second, and so on; at the first difference ks has the larger one
+abbrev pub Most : List ℕ → List ℕ → Type 0
+Most [] js = js ≡ []
+Most (k ∷ ks) [] = ⊥
+Most (k ∷ ks) (j ∷ js) = (j < k) ⊎ ((j ≡ k) × Most ks js)
+
+-- the words where the first command carries k writes; t has the least words of what is left after 1, 2, .. writes
+abbrev pub after : List ℕ → ℕ → ℕ
+after t k = words k + getD t (k - 1) 0
+
+-- the size of the first command: n, the most that it can carry, or one fewer where that takes fewer words
+abbrev pub size : ℕ → List ℕ → ℕ
+size n t = pick (ltb (after t (n - 1)) (after t n)) (n - 1) n
+
+-- the least words of l, then of what is left after 1, 2, .. writes, the empty rest last
+unfoldable pub table : {A : Type 0} → (List A → ℕ) → List A → List ℕ
+table span [] = 0 ∷ []
+table span (a ∷ l) = let t = table span l in after t (size (span (a ∷ l)) t) ∷ t
+
+-- THE LEAST WORDS that l can take
+abbrev pub least : {A : Type 0} → (List A → ℕ) → List A → ℕ
+least span l = getD (table span l) 0 0
+
+-- the size of its first command
+abbrev pub first : {A : Type 0} → (List A → ℕ) → List A → ℕ
+first span [] = 0
+first span (a ∷ l) = size (span (a ∷ l)) (table span l)
+
+-- the sizes of the commands of what is left after n writes
+unfoldable pub sizesFrom : {A : Type 0} → (List A → ℕ) → ℕ → List A → List ℕ
+sizesFrom span n [] = []
+sizesFrom span zero (a ∷ l) = let k = first span (a ∷ l) in k ∷ sizesFrom span (k - 1) l
+sizesFrom span (suc n) (a ∷ l) = sizesFrom span n l
+
+-- THE SIZES of its commands
+abbrev pub sizes : {A : Type 0} → (List A → ℕ) → List A → List ℕ
+sizes span l = sizesFrom span 0 l

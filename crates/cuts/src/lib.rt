@@ -1,0 +1,1 @@
+// How few words a run of writes can take: definitions in specs/, their laws in proofs/. No function.

@@ -1,0 +1,4 @@
+pub mod Pick
+pub mod Bits
+pub mod Answer
+pub mod Settled

@@ -1,0 +1,1 @@
+// Plain numbers: definitions in specs/, their laws in proofs/. No function.

@@ -1,0 +1,5 @@
+pub mod Lookup
+pub mod Tables
+pub mod Puts
+pub mod Sizes
+pub mod Single

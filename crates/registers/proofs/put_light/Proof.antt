@@ -1,0 +1,84 @@
+use lib.ListN.{getD}
+use Prim.Native.Nat.{_<_, _/_, _%_}
+-- Assumes nothing.
+use native.Mathlib.Omega.{arith}
+use Rattle.registers.specs.Ports.{lightCells, lightEntries}
+use Rattle.registers.proofs.Tables.{named-small}
+use borrow.Author.Needs.{needs}
+use Rattle.registers.proofs.put_light.Statement.{statement}
+use Rattle.registers.proofs.put_light.Tie as tie
+
+slice-read-x : tie.Need-slice-read-x
+slice-read-x c = search needs
+
+risen256-requires : tie.Need-risen256-requires
+risen256-requires c κs = search needs
+
+slice-write-cells : tie.Need-slice-write-cells
+slice-write-cells c = search needs
+
+mul-i : tie.Need-mul-i
+mul-i c = search needs
+
+add-i : tie.Need-add-i
+add-i c = search needs
+
+cast-i : tie.Need-cast-i
+cast-i c = search needs
+
+mul-entered : tie.Need-mul-entered
+mul-entered c = search needs
+
+slice-read-entered : tie.Need-slice-read-entered
+slice-read-entered c =
+    let t : getD (c .before .before .before .before .before .before .args .cells .now) 0x1C5 0 / 256 % 32 < 0x18 = named-small _ (c .before .if1 .taken) in omega arith
+
+entered-requires : tie.Need-entered-requires
+entered-requires c κs = search needs
+
+mul-light : tie.Need-mul-light
+mul-light c = search needs
+
+slice-write-light : tie.Need-slice-write-light
+slice-write-light c =
+    let t : getD (c .before .before .before .before .before .before .before .args .cells .now) 0x1C5 0 / 256 % 32 < 0x18 = named-small _ (c .before .before .if1 .taken) in omega arith
+
+same-length : tie.Need-same-length
+same-length c = search needs
+
+same-length-2 : tie.Need-same-length-2
+same-length-2 c = search needs
+
+returns : tie.Need-returns
+unfolding lightCells lightEntries
+returns c =
+    (cc, rw (c .before .before .if1 .taken) (cc))
+
+same-length-3 : tie.Need-same-length-3
+same-length-3 c = search needs
+
+returns-2 : tie.Need-returns-2
+unfolding lightCells lightEntries
+returns-2 c =
+    (cc, rw (c .if1 .left))
+
+pub put-light-spec : {M : Type 1} → statement M
+put-light-spec =
+    tie.close
+    (tie.spec
+    slice-read-x
+    risen256-requires
+    slice-write-cells
+    mul-i
+    add-i
+    cast-i
+    mul-entered
+    slice-read-entered
+    entered-requires
+    mul-light
+    slice-write-light
+    same-length
+    same-length-2
+    returns
+    same-length-3
+    returns-2)

@@ -1,0 +1,33 @@
+-- What one write does to a state, and what writes do one after another.
+use mathlib.Core.List.{List, [], _∷_}
+use Prim.Native.Nat.{ℕ}
+use lib.Bits.{bitAnd}
+use lib.Dec.{eqb}
+use lib.ListN.{getD, set}
+use Rattle.numbers.specs.Pick.{pick}
+use Rattle.numbers.specs.Bits.{spread, merge}
+use Rattle.words.specs.Writes.{Write, fogData, lightData}
+use Rattle.registers.specs.State.{State, st}
+use Rattle.registers.specs.Held.{bitsOf}
+use Rattle.registers.specs.Ports.{fogCells, fogEntries, lightCells, lightEntries}
+
+-- a write to a held register replaces, of the bits it holds, those in the bytes e; to any other it changes nothing
+unfoldable pub cellsAfter : List ℕ → ℕ → ℕ → ℕ → List ℕ
+cellsAfter cells i e v =
+    pick (eqb (bitsOf i) 0) cells (set cells i (merge (bitAnd (bitsOf i) e) (getD cells i 0) v))
+
+-- the value v, written to i in the bytes e
+unfoldable pub put : State → ℕ → ℕ → ℕ → State
+put s i e v =
+    pick (fogData i) (st (fogCells (s .cells)) (fogEntries (s .cells) (s .fog) v) (s .light))
+    (pick (lightData i) (st (lightCells (s .cells)) (s .fog) (lightEntries (s .cells) (s .light) v))
+    (st (cellsAfter (s .cells) i e v) (s .fog) (s .light)))
+
+-- ONE WRITE: the bytes whose mask bit is 1
+abbrev pub apply : State → Write → State
+apply s w = put s (w .id) (spread (w .mask)) (w .value)
+
+-- one write after another
+unfoldable pub applyAll : State → List Write → State
+applyAll s [] = s
+applyAll s (w ∷ ws) = applyAll (apply s w) ws

@@ -1,0 +1,5 @@
+pub mod State
+pub mod Held
+pub mod Ports
+pub mod Applied
+pub mod Single

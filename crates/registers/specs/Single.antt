@@ -1,0 +1,33 @@
+-- One write alone, on a state: refusals 6, 9, 3, 4, 5 in this order, place 0; a refusal changes nothing.
+use Prim.Native.Nat.{ℕ, zero, suc}
+use lib.Dec.{ltb}
+use Rattle.numbers.specs.Pick.{pick}
+use Rattle.numbers.specs.Answer.{Answer, answered, refused}
+use Rattle.words.specs.Writes.{Write, faultOf}
+use Rattle.registers.specs.State.{State, sized}
+use Rattle.registers.specs.Applied.{apply}
+use Rattle.registers.specs.declared.Written.{Written}
+use Rattle.registers.specs.declared.Written.the-variants.{Done, Refused}
+
+-- the document's number and values for each case
+abbrev pub told : Written → Answer
+told Done = answered 0
+told (Refused r) = refused (r .number) (r .place)
+
+-- the number of its refusal, 0 for none
+unfoldable pub refusalOf : State → Write → ℕ
+refusalOf s w = pick (sized s) (pick (ltb 15 (w .mask)) 9 (faultOf (w .id) (w .mask))) 6
+
+abbrev pub atZero : ℕ → Answer
+atZero zero = answered 0
+atZero (suc n) = refused (suc n) 0
+
+abbrev pub unless : ℕ → State → State → State
+unless zero changed kept = changed
+unless (suc n) changed kept = kept
+
+abbrev pub writeAnswer : State → Write → Answer
+writeAnswer s w = atZero (refusalOf s w)
+
+abbrev pub writeState : State → Write → State
+writeState s w = unless (refusalOf s w) (apply s w) s

@@ -1,0 +1,18 @@
+-- A state: three lent buffers of 32-bit words.
+use mathlib.Core.Bool.{Bool, _&&_}
+use mathlib.Core.List.{List}
+use Prim.Native.Nat.{ℕ}
+use lib.Dec.{eqb}
+use lib.ListN.{length}
+
+pub record State : Type 0 where
+  pub cells : List ℕ
+  pub fog : List ℕ
+  pub light : List ℕ
+
+abbrev pub st : List ℕ → List ℕ → List ℕ → State
+st c f l = record { cells = c; fog = f; light = l }
+
+-- 768 register cells, 128 fog entries, 6,144 light entries (24 tables of 256); other lengths are refused
+abbrev pub sized : State → Bool
+sized s = eqb (length (s .cells)) 768 && eqb (length (s .fog)) 128 && eqb (length (s .light)) 6144

@@ -1,0 +1,22 @@
+-- A command's header word, and the words that its command takes.
+use Prim.Native.Nat.{ℕ, _+_, _/_, _%_}
+
+-- bits 0-15: the id
+abbrev pub idOf : ℕ → ℕ
+idOf h = h % 0x10000
+
+-- bits 16-19: the mask
+abbrev pub maskOf : ℕ → ℕ
+maskOf h = h / 0x10000 % 16
+
+-- bits 20-27: the number of extra parameters; bits 28-30 are unused
+abbrev pub countOf : ℕ → ℕ
+countOf h = h / 0x100000 % 256
+
+-- bit 31, consecutive: by how much ids rise from write to write
+abbrev pub stepOf : ℕ → ℕ
+stepOf h = h / 0x80000000 % 2
+
+-- the first parameter, the header, the extra parameters, and one padding word if the words so far are odd in number
+abbrev pub wordsOf : ℕ → ℕ
+wordsOf h = 2 + countOf h + (2 + countOf h) % 2

@@ -1,0 +1,4 @@
+pub mod Header
+pub mod Commands
+pub mod Writes
+pub mod Taken

@@ -1,0 +1,35 @@
+-- A single write, and what can be wrong with it.
+use mathlib.Core.Bool.{Bool, not, _&&_, _||_}
+use Prim.Native.Nat.{ℕ}
+use lib.Dec.{leb, ltb, eqb}
+use Rattle.numbers.specs.Pick.{pick, within}
+
+pub record Write : Type 0 where
+  pub id : ℕ
+  pub mask : ℕ
+  pub value : ℕ
+
+abbrev pub writing : ℕ → ℕ → ℕ → Write
+writing i m v = record { id = i; mask = m; value = v }
+
+-- the jump registers
+abbrev pub jumps : ℕ → Bool
+jumps i = eqb i 0x23C || eqb i 0x23D
+
+-- the data ids of the two ports
+abbrev pub fogData : ℕ → Bool
+fogData i = within 0xE8 0xEF i
+
+abbrev pub lightData : ℕ → Bool
+lightData i = within 0x1C8 0x1CF i
+
+abbrev pub portData : ℕ → Bool
+portData i = fogData i || lightData i
+
+-- a write is allowed if its id is 000h..2FFh, isn't a jump register, and, for a port's data id, its mask is Fh
+abbrev pub allowed : ℕ → ℕ → Bool
+allowed i m = leb i 0x2FF && not (jumps i) && (not (portData i) || eqb m 15)
+
+-- the number of a write's fault, 0 for none: 3 id above 2FFh, 4 a jump register, 5 port data with a mask other than Fh
+unfoldable pub faultOf : ℕ → ℕ → ℕ
+faultOf i m = pick (ltb 0x2FF i) 3 (pick (jumps i) 4 (pick (portData i && not (eqb m 15)) 5 0))
