@@ -1,37 +1,39 @@
 -- The choice of the first command's size: the most that it can carry, or one fewer. Assumes nothing.
-use mathlib.Core.Path.{_≡_, refl, sym, ap, subst, _∙_}
-use mathlib.Core.Bool.{true, false}
+use mathlib.Core.Path.{_≡_, subst}
 use mathlib.Core.List.{List}
-use Prim.Native.Nat.{ℕ, zero, suc, _+_, _-_, _%_, _≤_, _<_}
+use Prim.Native.Nat.{ℕ, zero, suc, _+_, _-_, _≤_, _<_}
 use native.Mathlib.Decide.{decLt}
 use native.Mathlib.Omega.{arith}
-use lib.Dec.{ltb}
 use lib.ListN.{getD, drop}
 use lib.Seq.{getD-drop}
 use borrow.Author.Tests.{lt-ltb, le-ltb}
-use Rattle.numbers.specs.Pick.{pick}
 use Rattle.cuts.specs.Cuts.{words, after, size}
 
--- what a test says of the choice: one fewer where that takes fewer words, else all
-pub size-fewer : (n : ℕ) (t : List ℕ) → after t (n - 1) < after t n → n - 1 ≡ size n t
-size-fewer n t h = rw (lt-ltb (after t (n - 1)) (after t n) h)
+-- WHAT A TEST SAYS OF THE CHOICE
 
+-- one fewer, where that takes fewer words
+pub size-fewer : (n : ℕ) (t : List ℕ) → after t (n - 1) < after t n → n - 1 ≡ size n t
+size-fewer n t h = rw lt-ltb
+
+-- else the most
 pub size-whole : (n : ℕ) (t : List ℕ) → after t n ≤ after t (n - 1) → n ≡ size n t
-size-whole n t h = rw (le-ltb (after t (n - 1)) (after t n) h)
+size-whole n t h = rw le-ltb
 
 -- a lone write leaves no choice
 pub size-lone : (n : ℕ) (t : List ℕ) → n ≡ 1 → n ≡ size n t
 size-lone n t e = size-whole n t (rw e (omega arith))
 
--- only the rests after 1, .., n writes are looked at
+-- WHAT THE CHOICE LOOKS AT
+
+-- no entry but the first n
 pub size-same : (n : ℕ) (t u : List ℕ) → 1 ≤ n → ((j : ℕ) → j < n → getD t j 0 ≡ getD u j 0) → size n t ≡ size n u
 size-same n t u h e = rw (e (n - 1) (omega arith), e (n - 1 - 1) (omega arith))
 
--- the rests of what starts at i, in a table xs of the whole run
+-- from a table xs of a whole run: for what is left after i writes, the rest after k more is entry i + k
 pub after-drop : (xs : List ℕ) (i k m : ℕ) → 1 ≤ k → m ≡ i + k → after (drop (i + 1) xs) k ≡ words k + getD xs m 0
 after-drop xs i k m h e = let f : i + 1 + (k - 1) ≡ m = omega arith in rw (getD-drop, f)
 
--- what is chosen: no more words than either, and a larger command takes more
+-- WHAT IS CHOSEN: k writes take no more words than n or n - 1 do, and any larger number takes more
 pub record Chosen (n : ℕ) (t : List ℕ) (k : ℕ) : Type 0 where
   pub low : 1 ≤ k
   pub high : k ≤ n
@@ -52,13 +54,20 @@ size-chosen n t h = go (decLt (after t (n - 1)) (after t n))
     go (yes q) =
         let two = fewer-leaves n t q in
         subst (Chosen n t) (size-fewer n t q)
-        (record { low = omega arith; high = omega arith; whole = omega arith; fewer = λ p. omega arith; larger = λ j u v. let e : j ≡ n = omega arith in rw e q })
+        (record {
+          low = omega arith;
+          high = omega arith;
+          whole = omega arith;
+          fewer = λ p. omega arith;
+          larger = λ j u v. let e : j ≡ n = omega arith in rw e q;
+        })
     go (no q) =
         subst (Chosen n t) (size-whole n t (omega arith))
         (record { low = h; high = omega arith; whole = omega arith; fewer = λ p. omega arith; larger = λ j u v. absurd (omega arith) })
 
--- where two writes more never take more words, no size takes fewer than the chosen one
-pub chosen-least : {n : ℕ} {t : List ℕ} {k : ℕ} → Chosen n t k → ((j : ℕ) → 1 ≤ j → j + 2 ≤ n → after t (j + 2) ≤ after t j)
+-- THE TWO ARE ENOUGH: where two writes more never take more words, no size takes fewer than the chosen one
+pub chosen-least :
+    {n : ℕ} {t : List ℕ} {k : ℕ} → Chosen n t k → ((j : ℕ) → 1 ≤ j → j + 2 ≤ n → after t (j + 2) ≤ after t j)
     → (j : ℕ) → 1 ≤ j → j ≤ n → after t k ≤ after t j
 chosen-least {n} {t} {k} c two j p q = go (n - j) j p (omega arith)
   where

@@ -1,5 +1,5 @@
--- Cuts of a run of writes into commands: what they are, what they take, and which of the shortest is the answer.
--- All goes by one function, `span`: how many of the first writes one command can carry.
+-- Packing a run of writes: the cuts of the run into commands, the words they take, and which of the shortest is the answer.
+-- All goes by one function, `span`: how many of the first writes of a run one command can carry.
 use mathlib.Core.Path.{_≡_}
 use mathlib.Core.List.{List, [], _∷_}
 use mathlib.Core.Logic.{_⊎_}
@@ -8,13 +8,13 @@ use lib.Dec.{ltb}
 use lib.ListN.{length, getD, drop}
 use Rattle.numbers.specs.Pick.{pick}
 
--- what the laws ask of a span: at least one write, no more than there are, and without its first write a command is still one
+-- what is asked of `span`: a command carries at least one write, no more than there are, and, without its first write, the others
 pub record Spans {A : Type 0} (span : List A → ℕ) : Type 0 where
   pub pos : (a : A) (l : List A) → 1 ≤ span (a ∷ l)
   pub fits : (l : List A) → span l ≤ length l
   pub tail : (a : A) (l : List A) → span (a ∷ l) ≤ suc (span l)
 
--- a command of k writes: the first parameter, the header, k - 1 extra parameters, and one padding word if the words so far are odd in number
+-- the words of a command of k writes: the first parameter, the header, k - 1 extra parameters, and one padding word if the words so far are odd in number
 abbrev pub words : ℕ → ℕ
 words k = k + 1 + (k + 1) % 2
 
@@ -28,13 +28,13 @@ abbrev pub Cut : {A : Type 0} → (List A → ℕ) → List A → List ℕ → T
 Cut span l [] = l ≡ []
 Cut span l (k ∷ ks) = (1 ≤ k) × (k ≤ span l) × Cut span (drop k l) ks
 
--- THE TIE RULE: the first command carries the most writes, then the second, and so on; at the first difference ks has the larger one
+-- THE TIE RULE: the first command carries the most writes, then the second, and so on; at the first difference the left cut has the larger command
 abbrev pub Most : List ℕ → List ℕ → Type 0
 Most [] js = js ≡ []
 Most (k ∷ ks) [] = ⊥
 Most (k ∷ ks) (j ∷ js) = (j < k) ⊎ ((j ≡ k) × Most ks js)
 
--- the words where the first command carries k writes; t has the least words of what is left after 1, 2, .. writes
+-- the words of a run whose first command carries k writes, where t has the words of what is left after 1, 2, .. writes
 abbrev pub after : List ℕ → ℕ → ℕ
 after t k = words k + getD t (k - 1) 0
 
@@ -42,12 +42,12 @@ after t k = words k + getD t (k - 1) 0
 abbrev pub size : ℕ → List ℕ → ℕ
 size n t = pick (ltb (after t (n - 1)) (after t n)) (n - 1) n
 
--- the least words of l, then of what is left after 1, 2, .. writes, the empty rest last
+-- the least words of a run, then of what is left after 1, 2, .. writes, down to none
 unfoldable pub table : {A : Type 0} → (List A → ℕ) → List A → List ℕ
 table span [] = 0 ∷ []
-table span (a ∷ l) = let t = table span l in after t (size (span (a ∷ l)) t) ∷ t
+table span (a ∷ l) = let t = table span l in let k = size (span (a ∷ l)) t in after t k ∷ t
 
--- THE LEAST WORDS that l can take
+-- THE LEAST WORDS of a run
 abbrev pub least : {A : Type 0} → (List A → ℕ) → List A → ℕ
 least span l = getD (table span l) 0 0
 

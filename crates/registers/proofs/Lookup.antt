@@ -6,9 +6,9 @@ use Prim.Native.Nat.{ℕ, _<_, _≤_}
 use native.Mathlib.Omega.{arith}
 use lib.Dec.{eqb, ltb}
 use lib.ListN.{getD}
-use borrow.Author.Tests.{lt-ltb, le-ltb, ne-eqb, ltb-true, eqb-true}
+use borrow.Author.Tests.{lt-ltb, le-ltb, ne-eqb, ltb-true, eqb-true, not-true}
 use Rattle.numbers.specs.Pick.{pick}
-use Rattle.numbers.proofs.Tests.{is-true, and-true, not-true}
+use Rattle.numbers.proofs.Tests.{is-true, and-true}
 use Rattle.numbers.proofs.Table.{at}
 use Rattle.words.specs.Writes.{fogData, lightData}
 use Rattle.registers.specs.Held.{Row, held, bitsIn, bitsOf, rowIn, rowTable, bitsTable}

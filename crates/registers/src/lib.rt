@@ -3,7 +3,7 @@ ghost use mathlib.Core.Path.{_≡_};
 ghost use lib.ListN.{length};
 ghost use Rattle.numbers.specs.Bits.{spread, merge};
 ghost use Rattle.words.specs.Writes.{writing};
-ghost use Rattle.registers.specs.State.{st};
+ghost use Rattle.registers.specs.State.{st, sized};
 ghost use Rattle.registers.specs.Held.{rowTable, bitsTable};
 ghost use Rattle.registers.specs.Ports.{entry, rise, fogCells, fogEntries, lightCells, lightEntries};
 ghost use Rattle.registers.specs.Applied.{put};
@@ -108,6 +108,13 @@ pub fn put_one(
     }
 }
 
+// The three buffers have a state's lengths.
+pub fn is_sized(cells: &[u32], fog: &[u32], light: &[u32]) -> bool
+    ensures { λ r. ⌜ r ≡ sized (st (now (cells .entry)) (now (fog .entry)) (now (light .entry))) ⌝ }
+{
+    (cells.len() == 768) & (fog.len() == 128) & (light.len() == 6144)
+}
+
 pub enum Written {
     Done,
     Refused(Refusal),
@@ -124,7 +131,7 @@ pub fn write(
 ) -> Written
     ensures { λ r. ⌜ (told r ≡ writeAnswer (st (now (cells .entry)) (now (fog .entry)) (now (light .entry))) (writing id mask value)) × (st (now (cells .exit)) (now (fog .exit)) (now (light .exit)) ≡ writeState (st (now (cells .entry)) (now (fog .entry)) (now (light .entry))) (writing id mask value)) ⌝ }
 {
-    if (cells.len() != 768) | (fog.len() != 128) | (light.len() != 6144) {
+    if !is_sized(cells, fog, light) {
         return Written::Refused(Refusal {
             number: words::BUFFER_LENGTH,
             place: 0,

@@ -1,37 +1,70 @@
-use Rattle.words.specs.Writes.{writing}
-use Rattle.registers.specs.State.{st}
 -- Each way out is one case of `writeAnswer` and `writeState`. Assumes nothing.
 use mathlib.Core.Path.{_≡_, sym, _∙_}
+use borrow.Author.Tests.{not-true, not-false}
 use native.Mathlib.Omega.{arith}
-use Rattle.registers.proofs.Sizes.{wrong-size, right-size, lengths}
+use Rattle.words.specs.Writes.{writing}
+use Rattle.registers.specs.State.{st}
+use Rattle.registers.proofs.Sizes.{lengths}
 use Rattle.registers.proofs.Single.{write-refused, write-done, length-refusal, mask-refusal, fault-refusal}
 use borrow.Author.Needs.{needs}
 use Rattle.registers.proofs.write.Statement.{statement}
 use Rattle.registers.proofs.write.Tie as tie
 
+is-sized-requires : tie.Need-is-sized-requires
+is-sized-requires c κs = search needs
+
+same-length : tie.Need-same-length
+same-length c = search needs
+
+same-length-2 : tie.Need-same-length-2
+same-length-2 c = search needs
+
+same-length-3 : tie.Need-same-length-3
+same-length-3 c = search needs
+
 returns : tie.Need-returns
 returns c =
-    let a = c .before .before .before .before .args in
+    let a = c .before .before .before .before .before .before .before .before .args in
     let s = st (a .cells .now) (a .fog .now) (a .light .now) in
     let w = writing (a .id) (a .mask) (a .value) in
-    write-refused s w 6 (λ z. omega arith) (length-refusal s w (wrong-size s (c .if1 .taken)))
+    write-refused s w 6 (λ z. omega arith) (length-refusal s w (sym (c .before .is-sized .ensures) ∙ not-true _ (c .if1 .taken)))
+
+same-length-4 : tie.Need-same-length-4
+same-length-4 c = search needs
+
+same-length-5 : tie.Need-same-length-5
+same-length-5 c = search needs
+
+same-length-6 : tie.Need-same-length-6
+same-length-6 c = search needs
 
 returns-2 : tie.Need-returns-2
 returns-2 c =
-    let a = c .before .before .before .before .before .args in
+    let a = c .before .before .before .before .before .before .before .before .before .args in
     let s = st (a .cells .now) (a .fog .now) (a .light .now) in
     let w = writing (a .id) (a .mask) (a .value) in
-    write-refused s w 9 (λ z. omega arith) (mask-refusal s w (right-size s (c .before .if1 .left)) (c .if2 .taken))
+    let k = sym (c .before .before .is-sized .ensures) ∙ not-false _ (c .before .if1 .left) in
+    write-refused s w 9 (λ z. omega arith) (mask-refusal s w k (c .if2 .taken))
 
 fault-requires : tie.Need-fault-requires
 fault-requires c κs = search needs
 
+same-length-7 : tie.Need-same-length-7
+same-length-7 c = search needs
+
+same-length-8 : tie.Need-same-length-8
+same-length-8 c = search needs
+
+same-length-9 : tie.Need-same-length-9
+same-length-9 c = search needs
+
 returns-3 : tie.Need-returns-3
 returns-3 c =
-    let a = c .before .before .before .before .before .before .before .args in
+    let a = c .before .before .before .before .before .before .before .before .before .before .before .args in
     let s = st (a .cells .now) (a .fog .now) (a .light .now) in
     let w = writing (a .id) (a .mask) (a .value) in
-    write-refused s w _ (c .if3 .taken) (fault-refusal s w (right-size s (c .before .before .before .if1 .left)) (c .before .before .if2 .left) ∙ sym (c .before .fault .ensures))
+    let k = sym (c .before .before .before .before .is-sized .ensures) ∙ not-false _ (c .before .before .before .if1 .left) in
+    write-refused s w _ (c .if3 .taken) (fault-refusal s w k (c .before .before .if2 .left) ∙ sym (c .before .fault .ensures))
 
 row-table-requires : tie.Need-row-table-requires
 row-table-requires c κs = search needs
@@ -44,40 +77,52 @@ spread-mask-requires c κs = search needs
 
 put-one-requires : tie.Need-put-one-requires
 put-one-requires c κs =
-    let a = c .before .before .before .before .before .before .before .before .before .before .before .before .before .before .before .args in
+    let a = c .before .before .before .before .before .before .before .before .before .before .before .before .before .before .before .before .before .before .before .args in
     let s = st (a .cells .now) (a .fog .now) (a .light .now) in
-    let k = lengths s (right-size s (c .before .before .before .before .before .before .before .before .before .before .before .if1 .left)) in (k .0, k .1, k .2, c .before .before .before .before .before .before .before .row-table .ensures, c .before .before .before .before .before .before .bits-table .ensures)
+    let k = lengths s (sym (c .before .before .before .before .before .before .before .before .before .before .before .before .is-sized .ensures) ∙ not-false _ (c .before .before .before .before .before .before .before .before .before .before .before .if1 .left)) in
+    (k .0, k .1, k .2, c .before .before .before .before .before .before .before .row-table .ensures, c .before .before .before .before .before .before .bits-table .ensures)
 
-same-length : tie.Need-same-length
-same-length c = search needs
+same-length-10 : tie.Need-same-length-10
+same-length-10 c = search needs
 
-same-length-2 : tie.Need-same-length-2
-same-length-2 c = search needs
+same-length-11 : tie.Need-same-length-11
+same-length-11 c = search needs
 
-same-length-3 : tie.Need-same-length-3
-same-length-3 c = search needs
+same-length-12 : tie.Need-same-length-12
+same-length-12 c = search needs
 
 returns-4 : tie.Need-returns-4
 returns-4 c =
-    let a = c .before .before .before .before .before .before .before .before .before .before .before .before .before .before .before .before .before .before .before .before .before .before .args in
+    let a = c .before .before .before .before .before .before .before .before .before .before .before .before .before .before .before .before .before .before .before .before .before .before .before .before .before .before .args in
     let s = st (a .cells .now) (a .fog .now) (a .light .now) in
     let w = writing (a .id) (a .mask) (a .value) in
-    let d = write-done s w (fault-refusal s w (right-size s (c .before .before .before .before .before .before .before .before .before .before .before .before .before .before .before .before .before .before .if1 .left)) (c .before .before .before .before .before .before .before .before .before .before .before .before .before .before .before .before .before .if2 .left) ∙ sym (c .before .before .before .before .before .before .before .before .before .before .before .before .before .before .before .before .fault .ensures) ∙ c .before .before .before .before .before .before .before .before .before .before .before .before .before .before .before .if3 .left) in
+    let k = sym (c .before .before .before .before .before .before .before .before .before .before .before .before .before .before .before .before .before .before .before .is-sized .ensures) ∙ not-false _ (c .before .before .before .before .before .before .before .before .before .before .before .before .before .before .before .before .before .before .if1 .left) in
+    let d = write-done s w (fault-refusal s w k (c .before .before .before .before .before .before .before .before .before .before .before .before .before .before .before .before .before .if2 .left) ∙ sym (c .before .before .before .before .before .before .before .before .before .before .before .before .before .before .before .before .fault .ensures) ∙ c .before .before .before .before .before .before .before .before .before .before .before .before .before .before .before .if3 .left) in
     (d .0, rw (c .before .before .before .before .before .before .before .spread-mask .ensures) at (c .before .before .before .before .before .before .put-one .ensures) ∙ d .1)
 
 pub write-spec : {M : Type 1} → statement M
 write-spec =
     tie.close
     (tie.spec
+    is-sized-requires
+    same-length
+    same-length-2
+    same-length-3
     returns
+    same-length-4
+    same-length-5
+    same-length-6
     returns-2
     fault-requires
+    same-length-7
+    same-length-8
+    same-length-9
     returns-3
     row-table-requires
     bits-table-requires
     spread-mask-requires
     put-one-requires
-    same-length
-    same-length-2
-    same-length-3
+    same-length-10
+    same-length-11
+    same-length-12
     returns-4)
