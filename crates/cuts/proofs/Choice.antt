@@ -11,13 +11,13 @@ use Rattle.cuts.specs.Cuts.{words, after, size}
 
 -- WHAT A TEST SAYS OF THE CHOICE
 
--- one fewer, where that takes fewer words
-pub size-fewer : (n : ℕ) (t : List ℕ) → after t (n - 1) < after t n → n - 1 ≡ size n t
-size-fewer n t h = rw lt-ltb
-
--- else the most
+-- the most, unless one fewer takes fewer words
 pub size-whole : (n : ℕ) (t : List ℕ) → after t n ≤ after t (n - 1) → n ≡ size n t
 size-whole n t h = rw le-ltb
+
+-- else one fewer
+pub size-fewer : (n : ℕ) (t : List ℕ) → after t (n - 1) < after t n → n - 1 ≡ size n t
+size-fewer n t h = rw lt-ltb
 
 -- a lone write leaves no choice
 pub size-lone : (n : ℕ) (t : List ℕ) → n ≡ 1 → n ≡ size n t

@@ -24,7 +24,7 @@ module _ {A : Type 0} {span : List A → ℕ} (s : Spans span) where
       go (suc zero) p q = omega arith
       go (suc (suc k)) p q = omega (arith, best (suc k) (omega arith) (omega (arith, s .tail a l)))
 
-  -- two writes fewer take at least two words less
+  -- two writes fewer take at least two words fewer
   two-fewer : (l : List A) → 2 ≤ length l → Best (drop 2 l) → least span (drop 2 l) + 2 ≤ least span l
   two-fewer [] h best = absurd (omega arith)
   two-fewer (a ∷ []) h best = absurd (omega arith)

@@ -3,3 +3,5 @@ pub mod Tables
 pub mod Puts
 pub mod Sizes
 pub mod Single
+pub mod Laws
+pub mod Once

@@ -1,0 +1,38 @@
+-- The verdict on a list: commands in order, each 2 first and then its writes; the first write at fault ends the reading.
+use mathlib.Core.Bool.{Bool, true, false, _&&_}
+use mathlib.Core.List.{List, [], _∷_}
+use Prim.Native.Nat.{ℕ, zero, suc, _+_}
+use lib.Dec.{eqb}
+use lib.ListN.{length}
+use Rattle.numbers.specs.Pick.{pick}
+use Rattle.numbers.specs.Answer.{Answer, answered, refused}
+use Rattle.words.specs.Writes.{Write, faultOf, allowed}
+use Rattle.words.specs.Commands.{whole, expand, commands}
+
+-- the number of the first write at fault, 0 where none is
+unfoldable pub firstFault : List Write → ℕ
+firstFault [] = 0
+firstFault (w ∷ ws) = let rest = firstFault ws in pick (eqb (faultOf (w .id) (w .mask)) 0) rest (faultOf (w .id) (w .mask))
+
+-- what is wrong with the command at p: 2 where it needs more words than are left, else the fault of its first write at fault
+abbrev pub commandFault : List ℕ → ℕ → ℕ
+commandFault l p = pick (whole l p) (firstFault (expand l p)) 2
+
+-- a fault refuses with its number at the command's first word
+abbrev pub unlessFault : ℕ → ℕ → Answer → Answer
+unlessFault zero p rest = rest
+unlessFault (suc f) p rest = refused (suc f) p
+
+-- the commands at these places, after n writes
+unfoldable pub judge : List ℕ → List ℕ → ℕ → Answer
+judge l [] n = answered n
+judge l (p ∷ ps) n = let rest = judge l ps (n + length (expand l p)) in unlessFault (commandFault l p) p rest
+
+-- THE VERDICT: the number of writes, or the refusal
+unfoldable pub verdict : List ℕ → Answer
+verdict l = judge l (commands l 0) 0
+
+-- each write of a run is allowed
+unfoldable pub allAllowed : List Write → Bool
+allAllowed [] = true
+allAllowed (w ∷ ws) = allowed (w .id) (w .mask) && allAllowed ws

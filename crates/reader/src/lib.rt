@@ -1,0 +1,1 @@
+// A list read into a state.

@@ -1,0 +1,84 @@
+-- The promise of each function that another crate can call settles its calls: any two answers that it allows, with what is then in the lent
+-- buffers, are equal. Assumes nothing.
+use mathlib.Core.Path.{_≡_, refl, ap, sym, _∙_}
+use mathlib.Core.List.{[]}
+use Prim.Native.Nat.{ℕ}
+use native.Mathlib.Omega.{arith}
+use contract.Lifetimes.{Lfts}
+use borrow.Fn.Kinds.{Dens}
+use denote.Ref.{now}
+use Rattle.numbers.specs.Answer.{Answer, answered, refused}
+use Rattle.numbers.specs.Settled.{Settles, settled}
+use Rattle.numbers.specs.Bits.{spread}
+use Rattle.words.specs.Writes.{writing}
+use Rattle.words.proofs.Once.{refusal-one}
+use Rattle.registers.specs.State.{State, st, sized}
+use Rattle.registers.specs.Held.{rowTable, bitsTable}
+use Rattle.registers.specs.Ports.{fogCells, fogEntries, lightCells, lightEntries}
+use Rattle.registers.specs.Applied.{put}
+use Rattle.registers.specs.Single.{told, writeAnswer, writeState}
+use Rattle.registers.specs.declared.Written.{Written}
+use Rattle.registers.specs.declared.Written.the-variants.{Done, Refused}
+use Rattle.registers.proofs.is_sized.Reads as is-sized
+use Rattle.registers.proofs.is_sized.Kinds as is-sized-kinds
+use Rattle.registers.proofs.spread_mask.Reads as spread-mask
+use Rattle.registers.proofs.spread_mask.Kinds as spread-mask-kinds
+use Rattle.registers.proofs.put_fog.Reads as put-fog
+use Rattle.registers.proofs.put_fog.Kinds as put-fog-kinds
+use Rattle.registers.proofs.put_light.Reads as put-light
+use Rattle.registers.proofs.put_light.Kinds as put-light-kinds
+use Rattle.registers.proofs.put_one.Reads as put-one
+use Rattle.registers.proofs.put_one.Kinds as put-one-kinds
+use Rattle.registers.proofs.held.row_table.Reads as row-table
+use Rattle.registers.proofs.held.row_table.Kinds as row-table-kinds
+use Rattle.registers.proofs.held.bits_table.Reads as bits-table
+use Rattle.registers.proofs.held.bits_table.Kinds as bits-table-kinds
+use Rattle.registers.proofs.write.Reads as write
+use Rattle.registers.proofs.write.Kinds as write-kinds
+
+-- no two answers of a single write mean the same
+pub told-one : (a b : Written) → told a ≡ told b → a ≡ b
+told-one Done Done e = refl
+told-one Done (Refused r) e = let z : _≡_ {A = ℕ} 0 1 = cc in absurd (omega arith)
+told-one (Refused r) Done e = let z : _≡_ {A = ℕ} 0 1 = cc in absurd (omega arith)
+told-one (Refused r) (Refused q) e = ap Refused (refusal-one r q (cc) (cc))
+
+pub write-settled : (κs : Lfts 3) (a : Dens κs write-kinds.ps)
+    → Settles (λ e. st (now (e .0)) (now (e .1 .0)) (now (e .1 .1 .0))) (write.Post κs a)
+write-settled κs a =
+    let s = st (now (a .0)) (now (a .1 .0)) (now (a .1 .1 .0)) in
+    let w = writing (a .1 .1 .1 .0) (a .1 .1 .1 .1 .0) (a .1 .1 .1 .1 .1 .0) in
+    settled _ _ told told-one (writeAnswer s w) (writeState s w) (λ r e p. p)
+
+pub is-sized-settled : (κs : Lfts 3) (a : Dens κs is-sized-kinds.ps) → Settles (λ e. tt {0}) (is-sized.Post κs a)
+is-sized-settled κs a =
+    settled _ _ (λ r. r) (λ r r′ e. e) (sized (st (now (a .0)) (now (a .1 .0)) (now (a .1 .1 .0)))) tt (λ r e p. (p, refl))
+
+-- the steps below the entry points, which other crates of the library call
+pub spread-mask-settled : (κs : Lfts 0) (a : Dens κs spread-mask-kinds.ps) → Settles (λ e. tt {0}) (spread-mask.Post κs a)
+spread-mask-settled κs a = settled _ _ (λ r. r) (λ r r′ e. e) (spread (a .0)) tt (λ r e p. (p, refl))
+
+pub row-table-settled : (κs : Lfts 0) (a : Dens κs row-table-kinds.ps) → Settles (λ e. tt {0}) (row-table.Post κs a)
+row-table-settled κs a = settled _ _ (λ r. r) (λ r r′ e. e) rowTable tt (λ r e p. (p, refl))
+
+pub bits-table-settled : (κs : Lfts 0) (a : Dens κs bits-table-kinds.ps) → Settles (λ e. tt {0}) (bits-table.Post κs a)
+bits-table-settled κs a = settled _ _ (λ r. r) (λ r r′ e. e) bitsTable tt (λ r e p. (p, refl))
+
+pub put-fog-settled : (κs : Lfts 2) (a : Dens κs put-fog-kinds.ps)
+    → Settles (λ e. st (now (e .0)) (now (e .1 .0)) []) (put-fog.Post κs a)
+put-fog-settled κs a =
+    settled _ _ (λ r. r) (λ r r′ e. e) tt (st (fogCells (now (a .0))) (fogEntries (now (a .0)) (now (a .1 .0)) (a .1 .1 .0)) [])
+    (λ r e p. (refl, rw (p .0, p .1)))
+
+pub put-light-settled : (κs : Lfts 2) (a : Dens κs put-light-kinds.ps)
+    → Settles (λ e. st (now (e .0)) [] (now (e .1 .0))) (put-light.Post κs a)
+put-light-settled κs a =
+    settled _ _ (λ r. r) (λ r r′ e. e) tt (st (lightCells (now (a .0))) [] (lightEntries (now (a .0)) (now (a .1 .0)) (a .1 .1 .0)))
+    (λ r e p. (refl, rw (p .0, p .1)))
+
+pub put-one-settled : (κs : Lfts 5) (a : Dens κs put-one-kinds.ps)
+    → Settles (λ e. st (now (e .0)) (now (e .1 .0)) (now (e .1 .1 .0))) (put-one.Post κs a)
+put-one-settled κs a =
+    settled _ _ (λ r. r) (λ r r′ e. e) tt
+    (put (st (now (a .0)) (now (a .1 .0)) (now (a .1 .1 .0))) (a .1 .1 .1 .1 .1 .0) (a .1 .1 .1 .1 .1 .1 .0) (a .1 .1 .1 .1 .1 .1 .1 .0))
+    (λ r e p. (refl, p))
