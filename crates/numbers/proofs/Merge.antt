@@ -42,9 +42,9 @@ bits-equal (suc n) a b ha hb same =
 
 -- one bit of a replacement: one test of the eight cases
 one-right : ℕ → ℕ → ℕ → Bool
-one-right e o n = eqb (bitOr (bitAnd o (1 - e)) (bitAnd n e)) (pickBit e o n)
+one-right e o n = eqb (bitOr (bitAnd o (1 - e)) (bitAnd n e)) (pickBit e n o)
 
-one-bit : (e o n : ℕ) → e < 2 → o < 2 → n < 2 → bitOr (bitAnd o (1 - e)) (bitAnd n e) ≡ pickBit e o n
+one-bit : (e o n : ℕ) → e < 2 → o < 2 → n < 2 → bitOr (bitAnd o (1 - e)) (bitAnd n e) ≡ pickBit e n o
 unfolding one-right
 one-bit e o n he ho hn =
     let i = e * 4 + o * 2 + n in
@@ -56,7 +56,7 @@ one-bit e o n he ho hn =
     eqb→eq _ _ (rw (p, q, r) at t)
 
 -- a bit of `merge e old new` is that of new where e has a 1, else that of old
-pub merge-bit : (k e old new : ℕ) → e < 2 ^ 32 → k < 32 → bit k (merge e old new) ≡ pickBit (bit k e) (bit k old) (bit k new)
+pub merge-bit : (k e old new : ℕ) → e < 2 ^ 32 → k < 32 → bit k (merge e old new) ≡ pickBit (bit k e) (bit k new) (bit k old)
 merge-bit k e old new h l =
     or-bit k (bitAnd old (0xFFFFFFFF - e)) (bitAnd new e)
     ∙ rw (and-bit k old (0xFFFFFFFF - e), and-bit k new e, comp-bit 32 k e h l)
@@ -66,7 +66,7 @@ pub merge-word : (e old new : ℕ) → e < 2 ^ 32 → merge e old new < 2 ^ 32
 merge-word e old new h =
     or-lt 32 (bitAnd old (0xFFFFFFFF - e)) (bitAnd new e) (omega (arith, and-le-r old (0xFFFFFFFF - e))) (omega (arith, and-le-r new e))
 
-pick-twice : (e o n : ℕ) → pickBit e (pickBit e o n) n ≡ pickBit e o n
+pick-twice : (e o n : ℕ) → pickBit e n (pickBit e n o) ≡ pickBit e n o
 pick-twice zero o n = refl
 pick-twice (suc e) o n = refl
 

@@ -6,7 +6,7 @@ use lib.Bits.{bitAnd, bitOr}
 abbrev pub bit : ℕ → ℕ → ℕ
 bit k x = x / 2 ^ k % 2
 
--- the bytes whose bit of the mask m is 1, all ones; bit 0 of m stands for the lowest byte
+-- the bytes whose bit of the mask m is 1, all ones; bit 0 of m, which is bit 16 of a header, stands for the lowest byte
 abbrev pub spread : ℕ → ℕ
 spread m = m % 2 * 0xFF + m / 2 % 2 * 0xFF00 + m / 4 % 2 * 0xFF0000 + m / 8 % 2 * 0xFF000000
 
@@ -14,7 +14,7 @@ spread m = m % 2 * 0xFF + m / 2 % 2 * 0xFF00 + m / 4 % 2 * 0xFF0000 + m / 8 % 2 
 abbrev pub merge : ℕ → ℕ → ℕ → ℕ
 merge e old new = bitOr (bitAnd old (0xFFFFFFFF - e)) (bitAnd new e)
 
--- a choice by a bit: new where it is 1, else old
+-- the choice by a bit: a where it is 1, else b
 abbrev pub pickBit : ℕ → ℕ → ℕ → ℕ
-pickBit zero old new = old
-pickBit (suc e) old new = new
+pickBit zero a b = b
+pickBit (suc e) a b = a

@@ -1,8 +1,9 @@
--- The first of two where a test holds, else the second; and the one test that is a range.
+-- The choice by a test that definitions are written with, and the test of a range.
 use mathlib.Core.Bool.{Bool, true, false, _&&_}
 use Prim.Native.Nat.{ℕ}
 use lib.Dec.{leb}
 
+-- a where the test holds, else b
 abbrev pub pick : {A : Type 0} → Bool → A → A → A
 pick true a b = a
 pick false a b = b

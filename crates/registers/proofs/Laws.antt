@@ -53,7 +53,7 @@ module _ (cells : List ℕ) (i m v : ℕ) where
   -- BIT BY BIT: a bit that is held and stands in a byte whose mask bit is 1 takes the value's, any other keeps its own
   pub cell-bit : eqb (bitsOf i) 0 ≡ false → i < length cells → m < 16 → (k : ℕ) → k < 32
       → bit k (getD (cellsAfter cells i (spread m) v) i 0)
-      ≡ pickBit (bitAnd (bit k (bitsOf i)) (bit (k / 8) m)) (bit k (getD cells i 0)) (bit k v)
+      ≡ pickBit (bitAnd (bit k (bitsOf i)) (bit (k / 8) m)) (bit k v) (bit k (getD cells i 0))
   cell-bit h l n k b =
       rw (
         after-held h,

@@ -1,5 +1,5 @@
 pub mod Lookup
-pub mod Tables
+pub mod Named
 pub mod Puts
 pub mod Sizes
 pub mod Single

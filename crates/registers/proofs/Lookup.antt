@@ -2,7 +2,7 @@
 use mathlib.Core.Path.{_≡_, refl}
 use mathlib.Core.Bool.{Bool, true, false, not, _&&_}
 use mathlib.Core.List.{List, [], _∷_}
-use Prim.Native.Nat.{ℕ, _<_, _≤_}
+use Prim.Native.Nat.{ℕ, _%_, _<_, _≤_}
 use native.Mathlib.Omega.{arith}
 use lib.Dec.{eqb, ltb}
 use lib.ListN.{getD}
@@ -11,20 +11,21 @@ use Rattle.numbers.specs.Pick.{pick}
 use Rattle.numbers.proofs.Tests.{is-true, and-true}
 use Rattle.numbers.proofs.Table.{at}
 use Rattle.words.specs.Writes.{fogData, lightData}
-use Rattle.registers.specs.Held.{Row, held, bitsIn, bitsOf, rowIn, rowTable, bitsTable}
+use Rattle.registers.specs.Held.{Row, held, bitsIn, bitsOf}
+use Rattle.registers.specs.Tables.{heldTable, rowIn, rowTable}
 
 -- a row holds some bits, and its id is no port's data; an id without a row holds none
 right : ℕ → ℕ → Bool
 right k r =
-    pick (ltb r 66) (eqb (getD bitsTable r 0) (bitsOf k) && not (eqb (bitsOf k) 0) && not (fogData k) && not (lightData k))
+    pick (ltb r 66) (eqb (getD heldTable r 0 % 0x100000000) (bitsOf k) && not (eqb (bitsOf k) 0) && not (fogData k) && not (lightData k))
     (eqb (bitsOf k) 0)
 
 rule : (k r : ℕ) → k < 768 → r ≡ getD rowTable k 0 → right k r ≡ true
-unfolding right rowTable bitsTable bitsOf bitsIn rowIn held
+unfolding right rowTable heldTable bitsOf bitsIn rowIn held
 rule k r h e = rw e (is-true (right k (getD rowTable k 0)) (at right rowTable tt k h))
 
 pub record Has (k r : ℕ) : Type 0 where
-  pub bits : getD bitsTable r 0 ≡ bitsOf k
+  pub bits : getD heldTable r 0 % 0x100000000 ≡ bitsOf k
   pub some : eqb (bitsOf k) 0 ≡ false
   pub noFog : fogData k ≡ false
   pub noLight : lightData k ≡ false
@@ -32,14 +33,14 @@ pub record Has (k r : ℕ) : Type 0 where
 pub row-has : (k r : ℕ) → k < 768 → r ≡ getD rowTable k 0 → r < 66 → Has k r
 unfolding right
 row-has k r h e l =
-    let B = eqb (getD bitsTable r 0) (bitsOf k) in
+    let B = eqb (getD heldTable r 0 % 0x100000000) (bitsOf k) in
     let N = not (eqb (bitsOf k) 0) in
     let F = not (fogData k) in
     let p = and-true (B && N && F) (not (lightData k)) (rw (lt-ltb r 66 l) at (rule k r h e)) in
     let q = and-true (B && N) F (p .0) in
     let s = and-true B N (q .0) in
     record {
-      bits = eqb-true (getD bitsTable r 0) (bitsOf k) (s .0);
+      bits = eqb-true (getD heldTable r 0 % 0x100000000) (bitsOf k) (s .0);
       some = not-true (eqb (bitsOf k) 0) (s .1);
       noFog = not-true (fogData k) (q .1);
       noLight = not-true (lightData k) (p .1);

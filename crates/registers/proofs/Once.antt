@@ -1,7 +1,6 @@
 -- The promise of each function that another crate can call settles its calls: any two answers that it allows, with what is then in the lent
 -- buffers, are equal. Assumes nothing.
 use mathlib.Core.Path.{_≡_, refl, ap, sym, _∙_}
-use mathlib.Core.List.{[]}
 use Prim.Native.Nat.{ℕ}
 use native.Mathlib.Omega.{arith}
 use contract.Lifetimes.{Lfts}
@@ -13,8 +12,7 @@ use Rattle.numbers.specs.Bits.{spread}
 use Rattle.words.specs.Writes.{writing}
 use Rattle.words.proofs.Once.{refusal-one}
 use Rattle.registers.specs.State.{State, st, sized}
-use Rattle.registers.specs.Held.{rowTable, bitsTable}
-use Rattle.registers.specs.Ports.{fogCells, fogEntries, lightCells, lightEntries}
+use Rattle.registers.specs.Tables.{rowTable, heldTable}
 use Rattle.registers.specs.Applied.{put}
 use Rattle.registers.specs.Single.{told, writeAnswer, writeState}
 use Rattle.registers.specs.declared.Written.{Written}
@@ -23,16 +21,12 @@ use Rattle.registers.proofs.is_sized.Reads as is-sized
 use Rattle.registers.proofs.is_sized.Kinds as is-sized-kinds
 use Rattle.registers.proofs.spread_mask.Reads as spread-mask
 use Rattle.registers.proofs.spread_mask.Kinds as spread-mask-kinds
-use Rattle.registers.proofs.put_fog.Reads as put-fog
-use Rattle.registers.proofs.put_fog.Kinds as put-fog-kinds
-use Rattle.registers.proofs.put_light.Reads as put-light
-use Rattle.registers.proofs.put_light.Kinds as put-light-kinds
 use Rattle.registers.proofs.put_one.Reads as put-one
 use Rattle.registers.proofs.put_one.Kinds as put-one-kinds
 use Rattle.registers.proofs.held.row_table.Reads as row-table
 use Rattle.registers.proofs.held.row_table.Kinds as row-table-kinds
-use Rattle.registers.proofs.held.bits_table.Reads as bits-table
-use Rattle.registers.proofs.held.bits_table.Kinds as bits-table-kinds
+use Rattle.registers.proofs.held.held_table.Reads as held-table
+use Rattle.registers.proofs.held.held_table.Kinds as held-table-kinds
 use Rattle.registers.proofs.write.Reads as write
 use Rattle.registers.proofs.write.Kinds as write-kinds
 
@@ -61,20 +55,8 @@ spread-mask-settled κs a = settled _ _ (λ r. r) (λ r r′ e. e) (spread (a .0
 pub row-table-settled : (κs : Lfts 0) (a : Dens κs row-table-kinds.ps) → Settles (λ e. tt {0}) (row-table.Post κs a)
 row-table-settled κs a = settled _ _ (λ r. r) (λ r r′ e. e) rowTable tt (λ r e p. (p, refl))
 
-pub bits-table-settled : (κs : Lfts 0) (a : Dens κs bits-table-kinds.ps) → Settles (λ e. tt {0}) (bits-table.Post κs a)
-bits-table-settled κs a = settled _ _ (λ r. r) (λ r r′ e. e) bitsTable tt (λ r e p. (p, refl))
-
-pub put-fog-settled : (κs : Lfts 2) (a : Dens κs put-fog-kinds.ps)
-    → Settles (λ e. st (now (e .0)) (now (e .1 .0)) []) (put-fog.Post κs a)
-put-fog-settled κs a =
-    settled _ _ (λ r. r) (λ r r′ e. e) tt (st (fogCells (now (a .0))) (fogEntries (now (a .0)) (now (a .1 .0)) (a .1 .1 .0)) [])
-    (λ r e p. (refl, rw (p .0, p .1)))
-
-pub put-light-settled : (κs : Lfts 2) (a : Dens κs put-light-kinds.ps)
-    → Settles (λ e. st (now (e .0)) [] (now (e .1 .0))) (put-light.Post κs a)
-put-light-settled κs a =
-    settled _ _ (λ r. r) (λ r r′ e. e) tt (st (lightCells (now (a .0))) [] (lightEntries (now (a .0)) (now (a .1 .0)) (a .1 .1 .0)))
-    (λ r e p. (refl, rw (p .0, p .1)))
+pub held-table-settled : (κs : Lfts 0) (a : Dens κs held-table-kinds.ps) → Settles (λ e. tt {0}) (held-table.Post κs a)
+held-table-settled κs a = settled _ _ (λ r. r) (λ r r′ e. e) heldTable tt (λ r e p. (p, refl))
 
 pub put-one-settled : (κs : Lfts 5) (a : Dens κs put-one-kinds.ps)
     → Settles (λ e. st (now (e .0)) (now (e .1 .0)) (now (e .1 .1 .0))) (put-one.Post κs a)

@@ -2,7 +2,7 @@
 use mathlib.Core.Path.{_≡_, refl}
 use mathlib.Core.Bool.{true, false}
 use mathlib.Core.List.{List}
-use Prim.Native.Nat.{ℕ, _<_, _≤_}
+use Prim.Native.Nat.{ℕ, _%_, _<_, _≤_}
 use native.Mathlib.Omega.{arith}
 use lib.Bits.{bitAnd}
 use lib.ListN.{getD, set}
@@ -12,7 +12,8 @@ use Rattle.numbers.proofs.Tests.{within-above}
 use Rattle.numbers.specs.Bits.{merge}
 use Rattle.words.specs.Writes.{fogData, lightData}
 use Rattle.registers.specs.State.{State, st}
-use Rattle.registers.specs.Held.{bitsOf, rowTable, bitsTable}
+use Rattle.registers.specs.Held.{bitsOf}
+use Rattle.registers.specs.Tables.{heldTable, rowTable}
 use Rattle.registers.specs.Ports.{fogCells, fogEntries, lightCells, lightEntries}
 use Rattle.registers.specs.Applied.{cellsAfter, put}
 use Rattle.registers.proofs.Lookup.{row-has, row-none, above-none}
@@ -28,7 +29,7 @@ module _ (s : State) (i e v : ℕ) where
   put-light-data f g = rw (f, g)
 
   pub put-held : i < 768 → (r : ℕ) → r ≡ getD rowTable i 0 → r < 66
-      → put s i e v ≡ st (set (s .cells) i (merge (bitAnd (getD bitsTable r 0) e) (getD (s .cells) i 0) v)) (s .fog) (s .light)
+      → put s i e v ≡ st (set (s .cells) i (merge (bitAnd (getD heldTable r 0 % 0x100000000) e) (getD (s .cells) i 0) v)) (s .fog) (s .light)
   unfolding put cellsAfter
   put-held h r q l = let b = row-has i r h q l in rw (b .noFog, b .noLight, b .some, b .bits)
 

@@ -1,4 +1,4 @@
--- What one write does to a state, and what writes do one after another.
+-- What one allowed write does to a state, and what writes do one after another.
 use mathlib.Core.List.{List, [], _∷_}
 use Prim.Native.Nat.{ℕ}
 use lib.Bits.{bitAnd}
@@ -16,14 +16,14 @@ unfoldable pub cellsAfter : List ℕ → ℕ → ℕ → ℕ → List ℕ
 cellsAfter cells i e v =
     pick (eqb (bitsOf i) 0) cells (set cells i (merge (bitAnd (bitsOf i) e) (getD cells i 0) v))
 
--- the value v, written to i in the bytes e
+-- the value v, written to i in the bytes e; port data, which is allowed in all four bytes only, goes to its table: data ids have no cell
 unfoldable pub put : State → ℕ → ℕ → ℕ → State
 put s i e v =
     pick (fogData i) (st (fogCells (s .cells)) (fogEntries (s .cells) (s .fog) v) (s .light))
     (pick (lightData i) (st (lightCells (s .cells)) (s .fog) (lightEntries (s .cells) (s .light) v))
     (st (cellsAfter (s .cells) i e v) (s .fog) (s .light)))
 
--- ONE WRITE: the bytes whose mask bit is 1
+-- ONE WRITE, which is allowed: in the bytes whose mask bit is 1
 abbrev pub apply : State → Write → State
 apply s w = put s (w .id) (spread (w .mask)) (w .value)
 

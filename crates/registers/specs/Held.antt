@@ -1,6 +1,6 @@
 -- The 66 held registers, and the bits that each holds.
 use mathlib.Core.List.{List, [], _∷_, _++_, map}
-use Prim.Native.Nat.{ℕ, zero, suc, _+_}
+use Prim.Native.Nat.{ℕ, _+_}
 use lib.Dec.{eqb}
 use Rattle.numbers.specs.Pick.{pick}
 
@@ -49,18 +49,3 @@ bitsIn (r ∷ rs) i = let b = bitsIn rs i in pick (eqb (r .id) i) (r .bits) b
 -- THE BITS THAT A REGISTER HOLDS, 0 where it isn't held
 unfoldable pub bitsOf : ℕ → ℕ
 bitsOf i = bitsIn held i
-
--- what a look-up goes by: for each id the number of its row, 66 where it has none; and the bits of each row
-unfoldable pub rowIn : List Row → ℕ → ℕ
-rowIn [] i = 0
-rowIn (r ∷ rs) i = let n = rowIn rs i in pick (eqb (r .id) i) 0 (suc n)
-
-abbrev pub upTo : ℕ → List ℕ → List ℕ
-upTo zero l = l
-upTo (suc n) l = upTo n (n ∷ l)
-
-unfoldable pub rowTable : List ℕ
-rowTable = map (λ i. rowIn held i) (upTo 768 [])
-
-unfoldable pub bitsTable : List ℕ
-bitsTable = map (λ (r : Row). r .bits) held

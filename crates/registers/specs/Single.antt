@@ -9,7 +9,7 @@ use Rattle.registers.specs.Applied.{apply}
 use Rattle.registers.specs.declared.Written.{Written}
 use Rattle.registers.specs.declared.Written.the-variants.{Done, Refused}
 
--- the document's number and values for each case
+-- the document's number and place for each refusal; a write that is done gives nothing more, which is 0
 abbrev pub told : Written → Answer
 told Done = answered 0
 told (Refused r) = refused (r .number) (r .place)
@@ -18,6 +18,7 @@ told (Refused r) = refused (r .number) (r .place)
 unfoldable pub refusalOf : State → Write → ℕ
 refusalOf s w = pick (sized s) (pick (ltb 15 (w .mask)) 9 (faultOf (w .id) (w .mask))) 6
 
+-- a refusal's place is 0
 abbrev pub atZero : ℕ → Answer
 atZero zero = answered 0
 atZero (suc n) = refused (suc n) 0

@@ -13,6 +13,6 @@ pub record State : Type 0 where
 abbrev pub st : List ℕ → List ℕ → List ℕ → State
 st c f l = record { cells = c; fog = f; light = l }
 
--- 768 register cells, 128 fog entries, 6,144 light entries (24 tables of 256); other lengths are refused
+-- the lengths of a state: 768 register cells, 128 fog entries, 6,144 light entries (24 tables of 256)
 abbrev pub sized : State → Bool
 sized s = eqb (length (s .cells)) 768 && eqb (length (s .fog)) 128 && eqb (length (s .light)) 6144

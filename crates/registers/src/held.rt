@@ -1,75 +1,76 @@
-// The held registers as constant tables: 66 rows, in the order of the document's table, and for each id the number of its row.
+// The held registers as constant tables: 66 rows of an id and its held-bit word, in the order of the document's table, and for each id the
+// number of its row.
 ghost use mathlib.Core.Path.{_≡_};
-ghost use Rattle.registers.specs.Held.{rowTable, bitsTable};
+ghost use Rattle.registers.specs.Tables.{heldTable, rowTable};
 
-// The bits that each row holds.
-const BITS: [u32; 66] = [
-    0x3, // 40
-    0xFFFFFF, // 41
-    0xFFFFFF, // 43
-    0xFFFFFF, // 48
-    0xFFFFFF, // 49
-    0xFFFFFF, // 4A
-    0xFFFFFF, // 4B
-    0xFFFFFF, // 4D
-    0xFFFFFF, // 4E
-    0xFFFFFF, // E1
-    0xFFFFFFFF, // 42
-    0xFFFFFFFF, // 44
-    0xFFFFFFFF, // FD
-    0xFFFFFFFF, // 103
-    0x1, // 47
-    0x1, // 6D
-    0x3, // 65
-    0x3, // 114
-    0x3, // 115
-    0x3, // 116
-    0x3FF03FF, // 66
-    0x3FF03FF, // 67
-    0x3FF03FF, // 68
-    0x301FF0F, // E0
-    0x7F, // E6
-    0x3000103, // 100
-    0xFFFF0707, // 101
-    0xF, // 102
-    0xF, // 112
-    0xF, // 113
-    0xFF71, // 104
-    0xFFFFFF71, // 105
-    0x777, // 106
-    0x1F71, // 107
-    0x70003, // 117
-    0x1FFF, // 1C5
-    0xFFF0FFF, // C0
-    0x777FFF, // C1
-    0xF000F, // C2
-    0xFFFFFFFF, // C3
-    0x30003, // C4
-    0xFFF0FFF, // C8
-    0x777FFF, // C9
-    0xF000F, // CA
-    0xFFFFFFFF, // CB
-    0x30003, // CC
-    0xFFF0FFF, // D0
-    0x777FFF, // D1
-    0xF000F, // D2
-    0xFFFFFFFF, // D3
-    0x30003, // D4
-    0xFFF0FFF, // D8
-    0x777FFF, // D9
-    0xF000F, // DA
-    0xFFFFFFFF, // DB
-    0x30003, // DC
-    0xFFF0FFF, // F0
-    0x777FFF, // F1
-    0xF000F, // F2
-    0xFFFFFFFF, // F3
-    0x30003, // F4
-    0xFFF0FFF, // F8
-    0x777FFF, // F9
-    0xF000F, // FA
-    0xFFFFFFFF, // FB
-    0x30003, // FC
+// A row: the id, and in the low 32 bits those that it holds.
+const HELD: [u64; 66] = [
+    0x040_00000003,
+    0x041_00FFFFFF,
+    0x043_00FFFFFF,
+    0x048_00FFFFFF,
+    0x049_00FFFFFF,
+    0x04A_00FFFFFF,
+    0x04B_00FFFFFF,
+    0x04D_00FFFFFF,
+    0x04E_00FFFFFF,
+    0x0E1_00FFFFFF,
+    0x042_FFFFFFFF,
+    0x044_FFFFFFFF,
+    0x0FD_FFFFFFFF,
+    0x103_FFFFFFFF,
+    0x047_00000001,
+    0x06D_00000001,
+    0x065_00000003,
+    0x114_00000003,
+    0x115_00000003,
+    0x116_00000003,
+    0x066_03FF03FF,
+    0x067_03FF03FF,
+    0x068_03FF03FF,
+    0x0E0_0301FF0F,
+    0x0E6_0000007F,
+    0x100_03000103,
+    0x101_FFFF0707,
+    0x102_0000000F,
+    0x112_0000000F,
+    0x113_0000000F,
+    0x104_0000FF71,
+    0x105_FFFFFF71,
+    0x106_00000777,
+    0x107_00001F71,
+    0x117_00070003,
+    0x1C5_00001FFF,
+    0x0C0_0FFF0FFF,
+    0x0C1_00777FFF,
+    0x0C2_000F000F,
+    0x0C3_FFFFFFFF,
+    0x0C4_00030003,
+    0x0C8_0FFF0FFF,
+    0x0C9_00777FFF,
+    0x0CA_000F000F,
+    0x0CB_FFFFFFFF,
+    0x0CC_00030003,
+    0x0D0_0FFF0FFF,
+    0x0D1_00777FFF,
+    0x0D2_000F000F,
+    0x0D3_FFFFFFFF,
+    0x0D4_00030003,
+    0x0D8_0FFF0FFF,
+    0x0D9_00777FFF,
+    0x0DA_000F000F,
+    0x0DB_FFFFFFFF,
+    0x0DC_00030003,
+    0x0F0_0FFF0FFF,
+    0x0F1_00777FFF,
+    0x0F2_000F000F,
+    0x0F3_FFFFFFFF,
+    0x0F4_00030003,
+    0x0F8_0FFF0FFF,
+    0x0F9_00777FFF,
+    0x0FA_000F000F,
+    0x0FB_FFFFFFFF,
+    0x0FC_00030003,
 ];
 
 // The row of each id, 66 where it isn't held.
@@ -845,14 +846,14 @@ const ROWS: [u8; 768] = [
 ];
 
 // The tables as values, made once by an entry point and lent down to each look-up: a constant array is written anew wherever it is indexed.
+pub fn held_table() -> [u64; 66]
+    ensures { λ r. ⌜ r ≡ heldTable ⌝ }
+{
+    HELD
+}
+
 pub fn row_table() -> [u8; 768]
     ensures { λ r. ⌜ r ≡ rowTable ⌝ }
 {
     ROWS
-}
-
-pub fn bits_table() -> [u32; 66]
-    ensures { λ r. ⌜ r ≡ bitsTable ⌝ }
-{
-    BITS
 }

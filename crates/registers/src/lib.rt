@@ -1,10 +1,11 @@
 // What one write does to a state of three lent buffers. The contracts cite specs/Applied.antt and specs/Single.antt.
 ghost use mathlib.Core.Path.{_≡_};
+ghost use Prim.Native.Nat.{_%_};
 ghost use lib.ListN.{length};
 ghost use Rattle.numbers.specs.Bits.{spread, merge};
 ghost use Rattle.words.specs.Writes.{writing};
 ghost use Rattle.registers.specs.State.{st, sized};
-ghost use Rattle.registers.specs.Held.{rowTable, bitsTable};
+ghost use Rattle.registers.specs.Tables.{heldTable, rowTable};
 ghost use Rattle.registers.specs.Ports.{entry, rise, fogCells, fogEntries, lightCells, lightEntries};
 ghost use Rattle.registers.specs.Applied.{put};
 ghost use Rattle.registers.specs.Single.{told, writeAnswer, writeState};
@@ -51,8 +52,15 @@ fn wide(x: u8) -> usize
     x as usize
 }
 
+// The held bits of a row.
+fn bits_of(row: u64) -> u32
+    ensures { λ r. ⌜ r ≡ row % 0x100000000 ⌝ }
+{
+    (row % 0x100000000) as u32
+}
+
 // A write to the fog port's data.
-pub fn put_fog(cells: &mut [u32], fog: &mut [u32], value: u32)
+fn put_fog(cells: &mut [u32], fog: &mut [u32], value: u32)
     requires { ⌜ (length (now cells) ≡ 768) × (length (now fog) ≡ 128) ⌝ }
     ensures { λ _. ⌜ (now (cells .exit) ≡ fogCells (now (cells .entry))) × (now (fog .exit) ≡ fogEntries (now (cells .entry)) (now (fog .entry)) value) ⌝ }
 {
@@ -63,7 +71,7 @@ pub fn put_fog(cells: &mut [u32], fog: &mut [u32], value: u32)
 }
 
 // A write to the light port's data: an unnamed table keeps its entries, and the index rises all the same.
-pub fn put_light(cells: &mut [u32], light: &mut [u32], value: u32)
+fn put_light(cells: &mut [u32], light: &mut [u32], value: u32)
     requires { ⌜ (length (now cells) ≡ 768) × (length (now light) ≡ 6144) ⌝ }
     ensures { λ _. ⌜ (now (cells .exit) ≡ lightCells (now (cells .entry))) × (now (light .exit) ≡ lightEntries (now (cells .entry)) (now (light .entry)) value) ⌝ }
 {
@@ -82,12 +90,12 @@ pub fn put_one(
     fog: &mut [u32],
     light: &mut [u32],
     rows: &[u8; 768],
-    bits: &[u32; 66],
+    held: &[u64; 66],
     id: u32,
     bytes: u32,
     value: u32,
 )
-    requires { ⌜ (length (now cells) ≡ 768) × (length (now fog) ≡ 128) × (length (now light) ≡ 6144) × (now rows ≡ rowTable) × (now bits ≡ bitsTable) ⌝ }
+    requires { ⌜ (length (now cells) ≡ 768) × (length (now fog) ≡ 128) × (length (now light) ≡ 6144) × (now rows ≡ rowTable) × (now held ≡ heldTable) ⌝ }
     ensures { λ _. ⌜ st (now (cells .exit)) (now (fog .exit)) (now (light .exit)) ≡ put (st (now (cells .entry)) (now (fog .entry)) (now (light .entry))) id bytes value ⌝ }
 {
     if 768 <= id {
@@ -96,7 +104,7 @@ pub fn put_one(
     let i = id as usize;
     let row = wide(rows[i]);
     if row < 66 {
-        cells[i] = merged(bits[row] & bytes, cells[i], value);
+        cells[i] = merged(bits_of(held[row]) & bytes, cells[i], value);
         return;
     }
     if (0xE8 <= id) & (id <= 0xEF) {
@@ -129,7 +137,8 @@ pub fn write(
     mask: u32,
     value: u32,
 ) -> Written
-    ensures { λ r. ⌜ (told r ≡ writeAnswer (st (now (cells .entry)) (now (fog .entry)) (now (light .entry))) (writing id mask value)) × (st (now (cells .exit)) (now (fog .exit)) (now (light .exit)) ≡ writeState (st (now (cells .entry)) (now (fog .entry)) (now (light .entry))) (writing id mask value)) ⌝ }
+    ensures answer { λ r. ⌜ told r ≡ writeAnswer (st (now (cells .entry)) (now (fog .entry)) (now (light .entry))) (writing id mask value) ⌝ }
+    ensures state { λ _. ⌜ st (now (cells .exit)) (now (fog .exit)) (now (light .exit)) ≡ writeState (st (now (cells .entry)) (now (fog .entry)) (now (light .entry))) (writing id mask value) ⌝ }
 {
     if !is_sized(cells, fog, light) {
         return Written::Refused(Refusal {
@@ -151,13 +160,13 @@ pub fn write(
         });
     }
     let rows = held::row_table();
-    let bits = held::bits_table();
+    let held = held::held_table();
     put_one(
         cells,
         fog,
         light,
         &rows,
-        &bits,
+        &held,
         id,
         spread_mask(mask),
         value,

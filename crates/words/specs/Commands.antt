@@ -16,7 +16,7 @@ headerAt l at = getD l (at + 1) 0
 abbrev pub paramAt : List ℕ → ℕ → ℕ → ℕ
 paramAt l at k = pick (eqb k 0) (getD l at 0) (getD l (at + 1 + k) 0)
 
--- its words are all there, the padding word too
+-- its words are all there, the padding word too; a header that isn't there reads as 0, which asks for two words, so a lone word fails
 abbrev pub whole : List ℕ → ℕ → Bool
 whole l at = leb (at + wordsOf (headerAt l at)) (length l)
 
@@ -26,21 +26,21 @@ run l at zero k i = []
 run l at (suc n) k i =
     writing i (maskOf (headerAt l at)) (paramAt l at k) ∷ run l at n (k + 1) (i + stepOf (headerAt l at))
 
--- THE EXPANSION OF A COMMAND: one write for each parameter in order
+-- THE EXPANSION OF A COMMAND, whose words are all there: one write for each parameter in order
 abbrev pub expand : List ℕ → ℕ → List Write
 expand l at = run l at (countOf (headerAt l at) + 1) 0 (idOf (headerAt l at))
 
--- the first words of the commands from `at` on, one after another to the list's end; at most n commands
+-- the first words of the commands from `at` on, one after another to the list's end, the last perhaps lacking words; at most n commands
 unfoldable pub places : ℕ → List ℕ → ℕ → List ℕ
 places zero l at = []
 places (suc n) l at =
     let rest = places n l (at + wordsOf (headerAt l at)) in pick (ltb at (length l)) (at ∷ rest) []
 
--- THE COMMANDS OF A LIST, each by the place of its first word
+-- THE COMMANDS OF A LIST from `at` on, each by the place of its first word; there are no more of them than words
 unfoldable pub commands : List ℕ → ℕ → List ℕ
 commands l at = places (length l - at) l at
 
--- THE EXPANSION OF A LIST joins those of its commands
+-- THE EXPANSION OF A LIST, which is well formed, joins those of its commands
 unfoldable pub join : List ℕ → List ℕ → List Write
 join l [] = []
 join l (p ∷ ps) = expand l p ++ join l ps

@@ -3,7 +3,7 @@ use Prim.Native.Nat.{_<_, _/_, _%_}
 -- Assumes nothing.
 use native.Mathlib.Omega.{arith}
 use Rattle.registers.specs.Ports.{lightCells, lightEntries}
-use Rattle.registers.proofs.Tables.{named-small}
+use Rattle.registers.proofs.Named.{named-small}
 use borrow.Author.Needs.{needs}
 use Rattle.registers.proofs.put_light.Statement.{statement}
 use Rattle.registers.proofs.put_light.Tie as tie

@@ -3,7 +3,7 @@ use mathlib.Core.Path.{_≡_, sym, ap, _∙_}
 use mathlib.Core.List.{List}
 use Prim.Native.Nat.{ℕ}
 use lib.ListN.{getD}
-use Rattle.registers.specs.Held.{rowTable}
+use Rattle.registers.specs.Tables.{rowTable}
 use Rattle.registers.proofs.Puts.{put-above, put-held, put-fog-data, put-light-data, put-none}
 use borrow.Author.Needs.{needs}
 use Rattle.registers.proofs.put_one.Statement.{statement}
@@ -19,14 +19,17 @@ element-copy-out-wide c = search needs
 wide-requires : tie.Need-wide-requires
 wide-requires c κs = search needs
 
+mul-bits-of : tie.Need-mul-bits-of
+mul-bits-of c = search needs
+
+element-copy-out-bits-of : tie.Need-element-copy-out-bits-of
+element-copy-out-bits-of c = search needs
+
+bits-of-requires : tie.Need-bits-of-requires
+bits-of-requires c κs = search needs
+
 mul-merged : tie.Need-mul-merged
 mul-merged c = search needs
-
-element-copy-out-merged : tie.Need-element-copy-out-merged
-element-copy-out-merged c = search needs
-
-mul-merged-2 : tie.Need-mul-merged-2
-mul-merged-2 c = search needs
 
 slice-read-merged : tie.Need-slice-read-merged
 slice-read-merged c = search needs
@@ -45,9 +48,9 @@ same-length c = search needs
 
 returns-2 : tie.Need-returns-2
 returns-2 c =
-    let a = c .before .before .before .before .before .before .before .before .before .before in
-    let r : c .before .before .before .before .wide .result ≡ getD rowTable (a .args .id) 0 = c .before .before .before .before .wide .ensures ∙ ap (λ (l : List ℕ). getD l (a .args .id) 0) (a .pre .3) in
-    rw (put-held _ (a .args .id) (a .args .bytes) (a .args .value) (c .before .before .before .before .before .before .if1 .left) _ r (c .before .before .before .if2 .taken), c .merged .ensures, a .pre .4)
+    let a = c .before .before .before .before .before .before .before .before .before .before .before in
+    let r : c .before .before .before .before .before .wide .result ≡ getD rowTable (a .args .id) 0 = c .before .before .before .before .before .wide .ensures ∙ ap (λ (l : List ℕ). getD l (a .args .id) 0) (a .pre .3) in
+    rw (put-held _ (a .args .id) (a .args .bytes) (a .args .value) (c .before .before .before .before .before .before .before .if1 .left) _ r (c .before .before .before .before .if2 .taken), c .merged .ensures, c .before .before .bits-of .ensures, a .pre .4)
 
 put-fog-requires : tie.Need-put-fog-requires
 put-fog-requires c κs = search needs
@@ -88,9 +91,10 @@ put-one-spec =
     returns
     element-copy-out-wide
     wide-requires
+    mul-bits-of
+    element-copy-out-bits-of
+    bits-of-requires
     mul-merged
-    element-copy-out-merged
-    mul-merged-2
     slice-read-merged
     merged-requires
     mul-cells

@@ -69,8 +69,8 @@ returns-3 c =
 row-table-requires : tie.Need-row-table-requires
 row-table-requires c κs = search needs
 
-bits-table-requires : tie.Need-bits-table-requires
-bits-table-requires c κs = search needs
+held-table-requires : tie.Need-held-table-requires
+held-table-requires c κs = search needs
 
 spread-mask-requires : tie.Need-spread-mask-requires
 spread-mask-requires c κs = search needs
@@ -80,7 +80,7 @@ put-one-requires c κs =
     let a = c .before .before .before .before .before .before .before .before .before .before .before .before .before .before .before .before .before .before .before .args in
     let s = st (a .cells .now) (a .fog .now) (a .light .now) in
     let k = lengths s (sym (c .before .before .before .before .before .before .before .before .before .before .before .before .is-sized .ensures) ∙ not-false _ (c .before .before .before .before .before .before .before .before .before .before .before .if1 .left)) in
-    (k .0, k .1, k .2, c .before .before .before .before .before .before .before .row-table .ensures, c .before .before .before .before .before .before .bits-table .ensures)
+    (k .0, k .1, k .2, c .before .before .before .before .before .before .before .row-table .ensures, c .before .before .before .before .before .before .held-table .ensures)
 
 same-length-10 : tie.Need-same-length-10
 same-length-10 c = search needs
@@ -119,7 +119,7 @@ write-spec =
     same-length-9
     returns-3
     row-table-requires
-    bits-table-requires
+    held-table-requires
     spread-mask-requires
     put-one-requires
     same-length-10

@@ -1,6 +1,7 @@
 -- The table is what its definition computes to. Assumes nothing.
 use mathlib.Core.Path.{refl}
-use Rattle.registers.specs.Held.{held, rowIn, rowTable}
+use Rattle.registers.specs.Held.{held}
+use Rattle.registers.specs.Tables.{rowIn, rowTable}
 use Rattle.registers.proofs.held.row_table.Statement.{statement}
 use Rattle.registers.proofs.held.row_table.Tie as tie
 
