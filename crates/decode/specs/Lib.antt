@@ -1,2 +1,4 @@
 pub mod Ranges
 pub mod Records
+pub mod Codes
+pub mod Decoded

@@ -5,7 +5,9 @@ ghost use Rattle.decode.specs.Ranges.{bits, inCells};
 ghost use Rattle.decode.specs.Records.{lightPortIn, settingsIn};
 use crate::records::LightPort;
 use crate::records::Settings;
+use words::Refusal;
 
+mod codes;
 mod frame;
 mod raster;
 pub mod records;
@@ -32,4 +34,9 @@ fn read_settings(cells: &[u32]) -> Settings
         framebuffer: frame::read_framebuffer(cells),
         light_port: read_light_port(cells[0x1C5]),
     }
+}
+
+pub enum Decoded {
+    Held(Settings),
+    Refused(Refusal),
 }

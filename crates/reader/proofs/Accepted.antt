@@ -51,7 +51,7 @@ unless-none (suc f) p m rest e = absurd (let z : _≡_ {A = ℕ} 0 1 = cc in ome
 
 -- ALL COMMANDS
 
-judge-none : (l : List ℕ) (n : ℕ) → judge l [] n ≡ answered n
+pub judge-none : (l : List ℕ) (n : ℕ) → judge l [] n ≡ answered n
 unfolding judge
 judge-none l n = refl
 

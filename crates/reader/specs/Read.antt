@@ -9,6 +9,13 @@ use Rattle.words.specs.Commands.{expansion}
 use Rattle.registers.specs.State.{State, sized}
 use Rattle.registers.specs.Applied.{applyAll}
 use Rattle.reader.specs.Verdict.{verdict}
+use Rattle.reader.specs.declared.Verdict.{Verdict}
+use Rattle.reader.specs.declared.Verdict.the-variants.{Accepted, Refused}
+
+-- the document's number and values for each case of the answer
+abbrev pub told : Verdict → Answer
+told (Accepted n) = answered n
+told (Refused r) = refused (r .number) (r .place)
 
 unfoldable pub readAnswer : State → List ℕ → Answer
 readAnswer s l = pick (sized s) (pick (leb (length l) 65536) (verdict l) (refused 1 0)) (refused 6 0)

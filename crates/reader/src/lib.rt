@@ -1,1 +1,100 @@
-// A list read into a state.
+// A list read into a state: judged whole, and then applied. The contracts cite specs/Verdict.antt and specs/Read.antt.
+ghost use mathlib.Core.Path.{_≡_};
+ghost use mathlib.Core.Bool.{true};
+ghost use Prim.Native.Nat.{_+_, _≤_, _<_};
+ghost use lib.Dec.{eqb};
+ghost use lib.ListN.{length};
+ghost use Rattle.numbers.specs.Pick.{pick};
+ghost use Rattle.words.specs.Header.{wordsOf, stepOf};
+ghost use Rattle.words.specs.Commands.{headerAt, expand, expansion, wellFormed};
+ghost use Rattle.registers.specs.State.{st};
+ghost use Rattle.registers.specs.Tables.{heldTable, rowTable};
+ghost use Rattle.registers.specs.Applied.{applyAll};
+ghost use Rattle.reader.specs.Verdict.{verdict};
+ghost use Rattle.reader.specs.Read.{told, readAnswer, readState};
+use words::Head;
+use words::Refusal;
+
+pub enum Verdict {
+    Accepted(usize),
+    Refused(Refusal),
+}
+
+// How many of a command's writes decide on it: those to one id are at fault all or none.
+fn deciding(count: u32, step: u32) -> u32
+    requires { ⌜ count < 256 ⌝ }
+    ensures { λ r. ⌜ r ≡ pick (eqb step 0) 1 (count + 1) ⌝ }
+{
+    if step == 0 { 1 } else { count + 1 }
+}
+
+// The verdict on a list of any length: commands in order, each for its words and then for its writes.
+pub fn judge_list(list: &[u32]) -> Verdict
+    ensures { λ r. ⌜ told r ≡ verdict (now (list .entry)) ⌝ }
+{
+    let mut at: usize = 0;
+    let mut n: usize = 0;
+    'commands: loop {
+        if list.len() <= at {
+            break 'commands Verdict::Accepted(n);
+        }
+        let Head::Taken(h) = words::head_at(list, at) else {
+            break 'commands Verdict::Refused(Refusal {
+                number: words::WORDS_MISSING,
+                place: at,
+            });
+        };
+        let mut id = h.id;
+        let mut left = deciding(h.count, h.step);
+        while 0 < left {
+            let why = words::fault(id, h.mask);
+            if why != 0 {
+                break 'commands Verdict::Refused(Refusal {
+                    number: why,
+                    place: at,
+                });
+            }
+            id += h.step;
+            left -= 1;
+        }
+        n += (h.count + 1) as usize;
+        at += (2 + h.count + (2 + h.count) % 2) as usize;
+    }
+}
+
+// The words that the command with this header takes.
+fn words_taken(h: u32) -> usize
+    ensures { λ r. ⌜ (r ≡ wordsOf h) × (r < 300) ⌝ }
+{
+    let count = h / 0x100000 % 256;
+    (2 + count + (2 + count) % 2) as usize
+}
+
+// The writes of the command at `at`, one after another.
+fn apply_command(
+    cells: &mut [u32],
+    fog: &mut [u32],
+    light: &mut [u32],
+    rows: &[u8; 768],
+    held: &[u64; 66],
+    list: &[u32],
+    at: usize,
+    step: u32,
+)
+    requires { ⌜ (length (now cells) ≡ 768) × (length (now fog) ≡ 128) × (length (now light) ≡ 6144) × (now rows ≡ rowTable) × (now held ≡ heldTable) ⌝ }
+    requires { ⌜ (at + wordsOf (headerAt (now list) at) ≤ length (now list)) × (step ≡ stepOf (headerAt (now list) at)) ⌝ }
+    ensures { λ _. ⌜ st (now (cells .exit)) (now (fog .exit)) (now (light .exit)) ≡ applyAll (st (now (cells .entry)) (now (fog .entry)) (now (light .entry))) (expand (now (list .entry)) at) ⌝ }
+{
+    let h = list[at + 1];
+    let bytes = registers::spread_mask(h / 0x10000 % 16);
+    let mut id = h % 0x10000;
+    registers::put_one(cells, fog, light, rows, held, id, bytes, list[at]);
+    let mut left = h / 0x100000 % 256;
+    let mut j = at + 2;
+    while 0 < left {
+        id += step;
+        registers::put_one(cells, fog, light, rows, held, id, bytes, list[j]);
+        j += 1;
+        left -= 1;
+    }
+}

@@ -1,0 +1,109 @@
+-- The verdict, command by command and write by write, by the tests that code makes. Assumes nothing.
+use mathlib.Core.Path.{_≡_, refl, sym, ap, _∙_}
+use mathlib.Core.Bool.{Bool, true, false}
+use mathlib.Core.List.{List, [], _∷_}
+use Prim.Native.Nat.{ℕ, zero, suc, _+_, _-_, _≤_, _<_}
+use native.Mathlib.Omega.{arith}
+use lib.Dec.{eqb}
+use lib.ListN.{length}
+use borrow.Author.Tests.{eq-eqb, ne-eqb, le-leb, lt-leb, eqb-true, eqb-false}
+use Rattle.numbers.specs.Pick.{pick}
+use Rattle.numbers.specs.Answer.{Answer, answered, refused}
+use Rattle.words.specs.Header.{idOf, maskOf, countOf, stepOf, wordsOf}
+use Rattle.words.specs.Writes.{Write, writing, faultOf}
+use Rattle.words.specs.Commands.{headerAt, paramAt, whole, run, expand, commands}
+use Rattle.words.proofs.Laws.{commands-end, commands-step, run-done, run-next, run-length}
+use Rattle.reader.specs.Verdict.{firstFault, commandFault, unlessFault, judge, verdict}
+use Rattle.reader.proofs.Accepted.{judge-none, judge-more}
+
+-- A RUN OF WRITES
+
+-- what decides on a command is no more than its writes
+pub deciding-most : (b : Bool) (n : ℕ) → pick b 1 (n + 1) ≤ n + 1
+deciding-most true n = omega arith
+deciding-most false n = omega arith
+
+pub first-none : firstFault [] ≡ 0
+unfolding firstFault
+first-none = refl
+
+pub first-good : (w : Write) (ws : List Write) → faultOf (w .id) (w .mask) ≡ 0 → firstFault (w ∷ ws) ≡ firstFault ws
+unfolding firstFault
+first-good w ws h = rw h
+
+pub first-bad : (w : Write) (ws : List Write) → (faultOf (w .id) (w .mask) ≡ 0 → ⊥) → firstFault (w ∷ ws) ≡ faultOf (w .id) (w .mask)
+unfolding firstFault
+first-bad w ws h = rw (ne-eqb (faultOf (w .id) (w .mask)) 0 h)
+
+module _ (l : List ℕ) (at : ℕ) where
+  abbrev h : ℕ
+  h = headerAt l at
+
+  -- no write is left
+  pub run-none : (n k i : ℕ) → n ≤ 0 → firstFault (run l at n k i) ≡ 0
+  run-none n k i z = rw (run-done l at n k i z) first-none
+
+  -- the next write has no fault, or it has the one that decides
+  pub run-good : (n k i : ℕ) → 0 < n → faultOf i (maskOf h) ≡ 0
+      → firstFault (run l at n k i) ≡ firstFault (run l at (n - 1) (k + 1) (i + stepOf h))
+  run-good n k i p z = rw (run-next l at n k i p) (first-good _ _ z)
+
+  pub run-bad : (n k i : ℕ) → 0 < n → (faultOf i (maskOf h) ≡ 0 → ⊥) → firstFault (run l at n k i) ≡ faultOf i (maskOf h)
+  run-bad n k i p z = rw (run-next l at n k i p) (first-bad _ _ z)
+
+  -- writes to one id are at fault all or none
+  same-none : (n k i : ℕ) → stepOf h ≡ 0 → faultOf i (maskOf h) ≡ 0 → firstFault (run l at n k i) ≡ 0
+  same-none zero k i s z = run-none 0 k i (omega arith)
+  same-none (suc n) k i s z =
+      let e : suc n - 1 ≡ n = omega arith in
+      let d : i + stepOf h ≡ i = omega arith in
+      run-good (suc n) k i (omega arith) z ∙ rw (e, d) (same-none n (k + 1) i s z)
+
+  same-all : (b : Bool) (n k i : ℕ) → eqb (faultOf i (maskOf h)) 0 ≡ b → stepOf h ≡ 0 → 0 < n
+      → firstFault (run l at n k i) ≡ firstFault (run l at 1 k i)
+  same-all true n k i b s p =
+      let z = eqb-true (faultOf i (maskOf h)) 0 b in same-none n k i s z ∙ sym (same-none 1 k i s z)
+  same-all false n k i b s p =
+      let z = eqb-false (faultOf i (maskOf h)) 0 b in run-bad n k i p z ∙ sym (run-bad 1 k i (omega arith) z)
+
+  by-step : (b : Bool) (n : ℕ) → eqb (stepOf h) 0 ≡ b → 0 < n
+      → firstFault (run l at n 0 (idOf h)) ≡ firstFault (run l at (pick b 1 n) 0 (idOf h))
+  by-step true n b p = same-all (eqb (faultOf (idOf h) (maskOf h)) 0) n 0 (idOf h) refl (eqb-true (stepOf h) 0 b) p
+  by-step false n b p = refl
+
+  pub deciding-fault : firstFault (expand l at) ≡ firstFault (run l at (pick (eqb (stepOf h) 0) 1 (countOf h + 1)) 0 (idOf h))
+  deciding-fault = by-step (eqb (stepOf h) 0) (countOf h + 1) refl (omega arith)
+
+  -- A COMMAND
+
+  -- past the end
+  pub judge-end : (n : ℕ) → length l ≤ at → judge l (commands l at) n ≡ answered n
+  judge-end n e = rw (commands-end l at e) (judge-none l n)
+
+  stop : (f : ℕ) (a : Answer) → (f ≡ 0 → ⊥) → unlessFault f at a ≡ refused f at
+  stop zero a z = absurd (z refl)
+  stop (suc f) a z = refl
+
+  -- a command that lacks words is refused with 2 at its first word
+  pub judge-short : (n : ℕ) → at < length l → length l < at + wordsOf h → judge l (commands l at) n ≡ refused 2 at
+  judge-short n i s =
+      rw (commands-step l at i) (judge-more l at (commands l (at + wordsOf h)) n ∙ rw (lt-leb (at + wordsOf h) (length l) s))
+
+  -- a write at fault ends the reading
+  pub judge-fault : (n f : ℕ) → at < length l → at + wordsOf h ≤ length l → firstFault (expand l at) ≡ f → (f ≡ 0 → ⊥)
+      → judge l (commands l at) n ≡ refused f at
+  judge-fault n f i s e z =
+      rw (commands-step l at i)
+      (judge-more l at (commands l (at + wordsOf h)) n ∙ rw (le-leb (at + wordsOf h) (length l) s, e) (stop f _ z))
+
+  -- else it goes on after the command's words, with its writes counted
+  pub judge-pass : (n : ℕ) → at < length l → at + wordsOf h ≤ length l → firstFault (expand l at) ≡ 0
+      → judge l (commands l at) n ≡ judge l (commands l (at + wordsOf h)) (n + (countOf h + 1))
+  judge-pass n i s e =
+      rw (commands-step l at i)
+      (judge-more l at (commands l (at + wordsOf h)) n
+      ∙ rw (le-leb (at + wordsOf h) (length l) s, e, run-length l at (countOf h + 1) 0 (idOf h)))
+
+pub verdict-of : (l : List ℕ) → verdict l ≡ judge l (commands l 0) 0
+unfolding verdict
+verdict-of l = refl

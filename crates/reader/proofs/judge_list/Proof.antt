@@ -1,0 +1,215 @@
+-- Two invariants: what is left of the list has the list's verdict, and what is left of a command has the command's fault. Assumes nothing.
+use mathlib.Core.Path.{_≡_, refl, sym, ap, _∙_}
+use Prim.Native.Nat.{_+_, _-_, _≤_, _<_}
+use native.Mathlib.Omega.{arith}
+use borrow.Author.Needs.{needs}
+use lib.Dec.{eqb}
+use lib.ListN.{length}
+use Rattle.numbers.specs.Pick.{pick}
+use Rattle.words.specs.Header.{idOf, maskOf, countOf, stepOf, wordsOf}
+use Rattle.words.specs.Writes.{faultOf}
+use Rattle.words.specs.Commands.{headerAt, run, expand, commands}
+use Rattle.words.proofs.Heads.{Whole, whole-of, short-of}
+use Rattle.reader.specs.Verdict.{firstFault, judge, verdict}
+use Rattle.reader.proofs.Judging.{deciding-most, run-none, run-good, run-bad, deciding-fault, judge-end, judge-short, judge-fault, judge-pass, verdict-of}
+use Rattle.reader.proofs.judge_list.Statement.{statement}
+use Rattle.reader.proofs.judge_list.Tie as tie
+use Rattle.reader.proofs.judge_list.Reads as reads
+use Rattle.reader.proofs.judge_list.Lts as lts
+use Rattle.reader.proofs.deciding.Reads as deciding-reads
+use Rattle.words.proofs.fault.Reads as fault-reads
+use Rattle.words.proofs.head_at.Reads as head-at-reads
+
+abbrev Inv-loop : tie.InvT-loop
+Inv-loop list at n h id₀ left₀ id left =
+    (left ≤ h .count + 1) × (id + left ≤ 65792) × (firstFault (run list at left (left₀ - left) id) ≡ firstFault (expand list at)) × (left ≤ left₀)
+
+abbrev μ-loop : tie.MeasureT-loop
+μ-loop list at n h id₀ left₀ id left = left
+
+abbrev Inv-commands : tie.InvT-commands
+Inv-commands list at₀ n₀ at n = (at ≤ length list) × (n ≤ at) × (judge list (commands list at) n ≡ verdict list)
+
+abbrev μ-commands : tie.MeasureT-commands
+μ-commands list at₀ n₀ at n = length list - at
+
+known : (c : tie.After-h Inv-loop μ-loop Inv-commands μ-commands)
+    → Whole (c .before .before .before .before .before .before .args .list .now) (c .before .before .before .before .commands .at) (c .h .given .0 .0)
+known c = whole-of _ _ _ (sym (c .before .before .head-at .ensures) ∙ c .h .given .1)
+
+commands-holds : tie.Need-commands-holds Inv-loop μ-loop Inv-commands μ-commands
+commands-holds c =
+    (search needs, search needs, sym (verdict-of (c .before .args .list .now)))
+
+-- src/lib.rt:45:30
+head-at-requires : tie.Need-head-at-requires Inv-loop μ-loop Inv-commands μ-commands
+head-at-requires c κs = search needs
+
+-- src/lib.rt:45:25
+enum-known-h : tie.Need-enum-known-h Inv-loop μ-loop Inv-commands μ-commands
+enum-known-h c = search needs
+
+-- src/lib.rt:46:46
+enum-told : tie.Need-enum-told Inv-loop μ-loop Inv-commands μ-commands
+enum-told c = search needs
+
+-- src/lib.rt:52:13
+deciding-requires : tie.Need-deciding-requires Inv-loop μ-loop Inv-commands μ-commands
+deciding-requires c κs =
+    let w = known (c .before) in omega arith
+
+-- src/lib.rt:53:9
+loop-holds : tie.Need-loop-holds Inv-loop μ-loop Inv-commands μ-commands
+loop-holds c =
+    let w = known (c .before .before) in
+    let d = c .deciding .ensures in
+    let l = c .before .before .before .before .before .before .before .before .args .list .now in
+    let at = c .before .before .before .before .before .before .commands .at in
+    let h = c .before .before .h .given .0 .0 in
+    let z : c .deciding .result - c .deciding .result ≡ 0 = omega arith in
+    let m : c .deciding .result ≤ h .count + 1 = rw d (deciding-most (eqb (h .step) 0) (h .count)) in
+    (m, omega arith, rw (z, d, w .step, w .count, w .id) (sym (deciding-fault l at)), omega arith)
+
+-- src/lib.rt:54:17
+fault-requires : tie.Need-fault-requires Inv-loop μ-loop Inv-commands μ-commands
+fault-requires c κs = search needs
+
+-- src/lib.rt:61:13
+add-id : tie.Need-add-id Inv-loop μ-loop Inv-commands μ-commands
+add-id c =
+    let w = known (c .before .before .before .before .before .before .before) in omega arith
+
+-- src/lib.rt:62:13
+sub-left : tie.Need-sub-left Inv-loop μ-loop Inv-commands μ-commands
+sub-left c = search needs
+
+-- src/lib.rt:53:9
+loop-less : tie.Need-loop-less Inv-loop μ-loop Inv-commands μ-commands
+loop-less c = search needs
+
+-- src/lib.rt:53:9
+loop-again : tie.Need-loop-again Inv-loop μ-loop Inv-commands μ-commands
+loop-again c =
+    let o = c .before .before .before .before in
+    let w = known (c .before .before .before .before .before .before .before) in
+    let l = c .before .before .before .before .before .before .before .before .before .before .before .before .before .args .list .now in
+    let at = c .before .before .before .before .before .before .before .before .before .before .before .commands .at in
+    let left = o .loop .left in
+    let t : 0 < left = c .before .before .before .loop-test .taken in
+    let k : c .before .before .before .before .before .deciding .result - (left - 1) ≡ c .before .before .before .before .before .deciding .result - left + 1 = omega (arith, o .loop .inv .3) in
+    let f : faultOf (o .loop .id) (maskOf (headerAt l at)) ≡ 0 = cc (w .mask, c .before .before .fault .ensures, c .before .if2 .left) in
+    (omega arith, omega arith, rw (k, w .step) (sym (run-good l at left _ (o .loop .id) t f) ∙ o .loop .inv .2), omega arith)
+
+-- src/lib.rt:64:15
+add-n : tie.Need-add-n Inv-loop μ-loop Inv-commands μ-commands
+add-n c =
+    let w = known (c .before .before .before .before .before) in omega arith
+
+-- src/lib.rt:64:14
+cast-n : tie.Need-cast-n Inv-loop μ-loop Inv-commands μ-commands
+cast-n c =
+    let w = known (c .before .before .before .before .before) in omega arith
+
+-- src/lib.rt:64:9
+add-n-2 : tie.Need-add-n-2 Inv-loop μ-loop Inv-commands μ-commands
+add-n-2 c =
+    let w = known (c .before .before .before .before .before) in omega arith
+
+-- src/lib.rt:65:16
+add-at : tie.Need-add-at Inv-loop μ-loop Inv-commands μ-commands
+add-at c =
+    let w = known (c .before .before .before .before .before .before) in omega arith
+
+-- src/lib.rt:65:31
+add-at-2 : tie.Need-add-at-2 Inv-loop μ-loop Inv-commands μ-commands
+add-at-2 c =
+    let w = known (c .before .before .before .before .before .before .before) in omega arith
+
+-- src/lib.rt:65:16
+add-at-3 : tie.Need-add-at-3 Inv-loop μ-loop Inv-commands μ-commands
+add-at-3 c =
+    let w = known (c .before .before .before .before .before .before .before) in omega arith
+
+-- src/lib.rt:65:15
+cast-at : tie.Need-cast-at Inv-loop μ-loop Inv-commands μ-commands
+cast-at c =
+    let w = known (c .before .before .before .before .before .before .before) in omega arith
+
+-- src/lib.rt:65:9
+add-at-4 : tie.Need-add-at-4 Inv-loop μ-loop Inv-commands μ-commands
+add-at-4 c =
+    let w = known (c .before .before .before .before .before .before .before) in omega arith
+
+-- src/lib.rt:41:5
+commands-less : tie.Need-commands-less Inv-loop μ-loop Inv-commands μ-commands
+commands-less c =
+    let w = known (c .before .before .before .before .before .before .before) in omega arith
+
+-- src/lib.rt:41:5
+commands-again : tie.Need-commands-again Inv-loop μ-loop Inv-commands μ-commands
+commands-again c =
+    let o = c .before .before .before .before in
+    let w = known (c .before .before .before .before .before .before .before) in
+    let l = c .before .before .before .before .before .before .before .before .before .before .before .before .before .args .list .now in
+    let at = c .before .before .before .before .before .before .before .before .before .before .before .commands .at in
+    let e : firstFault (expand l at) ≡ 0 = sym (o .loop .inv .2) ∙ run-none l at (o .loop .left) _ (o .loop .id) (c .before .before .before .loop-test .left) in
+    (omega arith, omega arith, rw (w .count) (sym (judge-pass l at (c .before .before .before .before .before .before .before .before .before .before .before .commands .n) (c .before .before .before .before .before .before .before .before .before .before .if1 .left) (w .fits) e) ∙ c .before .before .before .before .before .before .before .before .before .before .before .commands .inv .2))
+
+-- src/lib.rt:36:1
+returns : tie.Need-returns Inv-loop μ-loop Inv-commands μ-commands
+returns c =
+    let l = c .before .before .before .args .list .now in
+    sym (judge-end l (c .before .commands .at) (c .before .commands .n) (c .if1 .taken)) ∙ c .before .commands .inv .2
+
+-- src/lib.rt:36:1
+returns-2 : tie.Need-returns-2 Inv-loop μ-loop Inv-commands μ-commands
+returns-2 c =
+    let l = c .before .before .before .before .before .before .args .list .now in
+    let at = c .before .before .before .before .commands .at in
+    let s = short-of l at _ (sym (c .before .before .head-at .ensures) ∙ c .enum-told .given .1) in
+    sym (judge-short l at (c .before .before .before .before .commands .n) (c .before .before .before .if1 .left) s) ∙ c .before .before .before .before .commands .inv .2
+
+-- src/lib.rt:36:1
+returns-3 : tie.Need-returns-3 Inv-loop μ-loop Inv-commands μ-commands
+returns-3 c =
+    let o = c .before .before .before in
+    let w = known (c .before .before .before .before .before .before) in
+    let l = c .before .before .before .before .before .before .before .before .before .before .before .before .args .list .now in
+    let at = c .before .before .before .before .before .before .before .before .before .before .commands .at in
+    let f : c .before .fault .result ≡ faultOf (o .loop .id) (maskOf (headerAt l at)) = cc (w .mask, c .before .fault .ensures) in
+    let e : firstFault (expand l at) ≡ c .before .fault .result =
+    sym (o .loop .inv .2) ∙ run-bad l at (o .loop .left) _ (o .loop .id) (c .before .before .loop-test .taken) (λ z. c .if2 .taken (f ∙ z)) ∙ sym f in
+    sym (judge-fault l at (c .before .before .before .before .before .before .before .before .before .before .commands .n) _ (c .before .before .before .before .before .before .before .before .before .if1 .left) (w .fits) e (c .if2 .taken)) ∙ c .before .before .before .before .before .before .before .before .before .before .commands .inv .2
+
+pub judge-list-spec : {M : Type 1} → statement M
+judge-list-spec =
+    tie.close
+    (tie.spec
+    Inv-loop
+    μ-loop
+    Inv-commands
+    μ-commands
+    commands-holds
+    head-at-requires
+    enum-known-h
+    enum-told
+    deciding-requires
+    loop-holds
+    fault-requires
+    add-id
+    sub-left
+    loop-less
+    loop-again
+    add-n
+    cast-n
+    add-n-2
+    add-at
+    add-at-2
+    add-at-3
+    cast-at
+    add-at-4
+    commands-less
+    commands-again
+    returns
+    returns-2
+    returns-3)
