@@ -106,9 +106,6 @@ stageChecks b s =
     ∷ check (b + 4) (scaleLacks (s .scale))
     ∷ []
 
-unfoldable pub fogChecks : UpdateBuffer → List Check
-fogChecks u = check 0xE0 (updateLacks u) ∷ []
-
 unfoldable pub frameChecks : Framebuffer → List Check
 frameChecks f =
     check 0x100 (operationLacks (f .blending .operation))
@@ -120,17 +117,20 @@ frameChecks f =
 -- every register that holds codes, ids ascending
 unfoldable pub checks : Settings → List Check
 checks s =
-    stageChecks 0xC0 (s .stages .stage0) ++ stageChecks 0xC8 (s .stages .stage1)
-    ++ (stageChecks 0xD0 (s .stages .stage2) ++ stageChecks 0xD8 (s .stages .stage3))
-    ++ fogChecks (s .«buffer_fog» .update)
-    ++ (stageChecks 0xF0 (s .stages .stage4) ++ stageChecks 0xF8 (s .stages .stage5))
+    stageChecks 0xC0 (s .stages .stage0)
+    ++ stageChecks 0xC8 (s .stages .stage1)
+    ++ stageChecks 0xD0 (s .stages .stage2)
+    ++ stageChecks 0xD8 (s .stages .stage3)
+    ++ (check 0xE0 (updateLacks (s .«buffer_fog» .update)) ∷ [])
+    ++ stageChecks 0xF0 (s .stages .stage4)
+    ++ stageChecks 0xF8 (s .stages .stage5)
     ++ frameChecks (s .framebuffer)
 
--- the first id of a list of checks that lacks a name, 0 for none
-unfoldable pub lowest : List Check → ℕ
-lowest [] = 0
-lowest (c ∷ cs) = let rest = lowest cs in pick (c .lacks) (c .id) rest
+-- the first id of a list of checks that lacks a name, else the rest
+unfoldable pub firstOf : List Check → ℕ → ℕ
+firstOf [] rest = rest
+firstOf (c ∷ cs) rest = let later = firstOf cs rest in pick (c .lacks) (c .id) later
 
--- a, or b where a is 0
-abbrev pub firstOf : ℕ → ℕ → ℕ
-firstOf a b = pick (eqb a 0) b a
+-- 0 for none
+abbrev pub lowest : List Check → ℕ
+lowest cs = firstOf cs 0

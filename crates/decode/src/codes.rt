@@ -1,11 +1,11 @@
 // Codes without a name: a test for each kind of register, and the lowest id that holds one, 0 for none. The contracts cite specs/Codes.antt.
 ghost use mathlib.Core.Path.{_≡_};
-ghost use Prim.Native.Nat.{_<_, _+_};
-ghost use mathlib.Core.List.{[], _∷_, _++_};
+ghost use Prim.Native.Nat.{_<_};
 ghost use lib.ListN.{length};
+ghost use Rattle.numbers.specs.Pick.{pick};
 ghost use Rattle.decode.specs.Ranges.{bits, inCells};
 ghost use Rattle.decode.specs.Records.{sourceIn, operandIn, combinerIn, scaleIn, stageIn, updateIn, operationIn, functionIn, formatIn, framebufferIn, settingsIn};
-ghost use Rattle.decode.specs.Codes.{sourceLacks, operandLacks, combinerLacks, scaleLacks, operationLacks, functionLacks, formatLacks, noDepthFormat, stageChecks, fogChecks, frameChecks, check, checks, lowest, firstOf};
+ghost use Rattle.decode.specs.Codes.{sourceLacks, operandLacks, combinerLacks, scaleLacks, updateLacks, operationLacks, functionLacks, formatLacks, noDepthFormat, stageChecks, frameChecks, checks, firstOf, lowest};
 
 fn source_lacks(x: u32) -> bool
     ensures { λ r. ⌜ r ≡ sourceLacks (sourceIn (bits x)) ⌝ }
@@ -79,100 +79,62 @@ fn format_lacks(x: u32) -> bool
     (size == 1) | (size == 3) | ((format == 1) | (5 <= format) & (format <= 7))
 }
 
-// Of four tests, each with its id, the first id whose test holds; 0 for none.
-fn lowest_of(p: bool, i: usize, q: bool, j: usize, s: bool, k: usize, t: bool, l: usize) -> usize
-    ensures { λ r. ⌜ r ≡ lowest (check i p ∷ check j q ∷ check k s ∷ check l t ∷ []) ⌝ }
+fn update_lacks(x: u32) -> bool
+    ensures { λ r. ⌜ r ≡ updateLacks (updateIn (bits x)) ⌝ }
 {
-    if p {
-        return i;
-    }
-    if q {
-        return j;
-    }
-    if s {
-        return k;
-    }
-    if t { l } else { 0 }
+    let mode = x % 8;
+    !((mode == 0) | (mode == 5) | (mode == 7))
 }
 
-// The lowest id of the stage whose source register is b.
-fn stage_lowest(cells: &[u32], b: usize) -> usize
+// The id where its register lacks a name, else the rest.
+fn first_of(lacks: bool, id: usize, rest: usize) -> usize
+    ensures { λ r. ⌜ r ≡ pick lacks id rest ⌝ }
+{
+    if lacks { id } else { rest }
+}
+
+// The first id of the stage whose source register is b, else the rest.
+fn stage_first(cells: &[u32], b: usize, rest: usize) -> usize
     requires { ⌜ (length (now cells) ≡ 768) × (b < 760) ⌝ }
-    ensures { λ r. ⌜ r ≡ lowest (stageChecks b (stageIn (inCells (now (cells .entry))) b)) ⌝ }
+    ensures { λ r. ⌜ r ≡ firstOf (stageChecks b (stageIn (inCells (now (cells .entry))) b)) rest ⌝ }
 {
     let source = cells[b];
     let operand = cells[b + 1];
     let combiner = cells[b + 2];
     let scale = cells[b + 4];
-    lowest_of(
-        source_lacks(source),
-        b,
-        operand_lacks(operand),
-        b + 1,
-        combiner_lacks(combiner),
-        b + 2,
-        scale_lacks(scale),
-        b + 4,
-    )
+    let last = first_of(scale_lacks(scale), b + 4, rest);
+    let third = first_of(combiner_lacks(combiner), b + 2, last);
+    let second = first_of(operand_lacks(operand), b + 1, third);
+    first_of(source_lacks(source), b, second)
 }
 
-// That of E0.
-fn fog_lowest(x: u32) -> usize
-    ensures { λ r. ⌜ r ≡ lowest (fogChecks (updateIn (bits x))) ⌝ }
-{
-    let mode = x % 8;
-    if (mode == 0) | (mode == 5) | (mode == 7) {
-        0
-    } else {
-        0xE0
-    }
-}
-
-// That of 100, 101, 116, 117.
-fn frame_lowest(cells: &[u32]) -> usize
+// The first of 100, 101, 116, 117; 0 for none.
+fn frame_first(cells: &[u32]) -> usize
     requires { ⌜ length (now cells) ≡ 768 ⌝ }
-    ensures { λ r. ⌜ r ≡ lowest (frameChecks (framebufferIn (inCells (now (cells .entry))))) ⌝ }
+    ensures { λ r. ⌜ r ≡ firstOf (frameChecks (framebufferIn (inCells (now (cells .entry))))) 0 ⌝ }
 {
     let operation = cells[0x100];
     let function = cells[0x101];
     let depth_format = cells[0x116];
     let format = cells[0x117];
-    lowest_of(
-        operation_lacks(operation),
-        0x100,
-        function_lacks(function),
-        0x101,
-        depth_format_lacks(depth_format),
-        0x116,
-        format_lacks(format),
-        0x117,
-    )
+    let last = first_of(format_lacks(format), 0x117, 0);
+    let third = first_of(depth_format_lacks(depth_format), 0x116, last);
+    let second = first_of(function_lacks(function), 0x101, third);
+    first_of(operation_lacks(operation), 0x100, second)
 }
 
-// a, or b where a is 0.
-fn first_of(a: usize, b: usize) -> usize
-    ensures { λ r. ⌜ r ≡ firstOf a b ⌝ }
-{
-    if a == 0 { b } else { a }
-}
-
-// That of two stages, the second 8 ids on.
-fn pair_lowest(cells: &[u32], b: usize) -> usize
-    requires { ⌜ (length (now cells) ≡ 768) × (b < 752) ⌝ }
-    ensures { λ r. ⌜ r ≡ lowest (stageChecks b (stageIn (inCells (now (cells .entry))) b) ++ stageChecks (b + 8) (stageIn (inCells (now (cells .entry))) (b + 8))) ⌝ }
-{
-    first_of(stage_lowest(cells, b), stage_lowest(cells, b + 8))
-}
-
-// The lowest of all.
+// The lowest id of all, from the highest register down; 0 for none.
 pub fn nameless_id(cells: &[u32]) -> usize
     requires { ⌜ length (now cells) ≡ 768 ⌝ }
     ensures { λ r. ⌜ r ≡ lowest (checks (settingsIn (inCells (now (cells .entry))))) ⌝ }
 {
-    let low = first_of(pair_lowest(cells, 0xC0), pair_lowest(cells, 0xD0));
-    let env = first_of(
-        first_of(low, fog_lowest(cells[0xE0])),
-        pair_lowest(cells, 0xF0),
-    );
-    first_of(env, frame_lowest(cells))
+    let update = cells[0xE0];
+    let frame = frame_first(cells);
+    let stage5 = stage_first(cells, 0xF8, frame);
+    let stage4 = stage_first(cells, 0xF0, stage5);
+    let fog = first_of(update_lacks(update), 0xE0, stage4);
+    let stage3 = stage_first(cells, 0xD8, fog);
+    let stage2 = stage_first(cells, 0xD0, stage3);
+    let stage1 = stage_first(cells, 0xC8, stage2);
+    stage_first(cells, 0xC0, stage1)
 }

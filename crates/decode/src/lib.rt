@@ -1,8 +1,10 @@
 // The decoded state.
 ghost use mathlib.Core.Path.{_≡_};
 ghost use lib.ListN.{length};
+ghost use Rattle.registers.specs.State.{st};
 ghost use Rattle.decode.specs.Ranges.{bits, inCells};
 ghost use Rattle.decode.specs.Records.{lightPortIn, settingsIn};
+ghost use Rattle.decode.specs.Decoded.{decodedOf};
 use crate::records::LightPort;
 use crate::records::Settings;
 use words::Refusal;
@@ -39,4 +41,24 @@ fn read_settings(cells: &[u32]) -> Settings
 pub enum Decoded {
     Held(Settings),
     Refused(Refusal),
+}
+
+// The decoded state of the three buffers; or refused with 6 at 0, or with 13 at the lowest id that holds a code without a name.
+pub fn decode(cells: &[u32], fog: &[u32], light: &[u32]) -> Decoded
+    ensures { λ r. ⌜ r ≡ decodedOf (st (now (cells .entry)) (now (fog .entry)) (now (light .entry))) ⌝ }
+{
+    if !registers::is_sized(cells, fog, light) {
+        return Decoded::Refused(Refusal {
+            number: words::BUFFER_LENGTH,
+            place: 0,
+        });
+    }
+    let id = codes::nameless_id(cells);
+    if id != 0 {
+        return Decoded::Refused(Refusal {
+            number: words::CODE_WITHOUT_NAME,
+            place: id,
+        });
+    }
+    Decoded::Held(read_settings(cells))
 }

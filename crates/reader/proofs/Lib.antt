@@ -1,3 +1,4 @@
 pub mod Accepted
 pub mod Judging
 pub mod Applying
+pub mod Answers

@@ -98,3 +98,64 @@ fn apply_command(
         left -= 1;
     }
 }
+
+// The command at `at`, for a step that is known: a command to one id looks its register up once.
+fn apply_at(
+    cells: &mut [u32],
+    fog: &mut [u32],
+    light: &mut [u32],
+    rows: &[u8; 768],
+    held: &[u64; 66],
+    list: &[u32],
+    at: usize,
+)
+    requires { ⌜ (length (now cells) ≡ 768) × (length (now fog) ≡ 128) × (length (now light) ≡ 6144) × (now rows ≡ rowTable) × (now held ≡ heldTable) ⌝ }
+    requires { ⌜ at + wordsOf (headerAt (now list) at) ≤ length (now list) ⌝ }
+    ensures { λ _. ⌜ st (now (cells .exit)) (now (fog .exit)) (now (light .exit)) ≡ applyAll (st (now (cells .entry)) (now (fog .entry)) (now (light .entry))) (expand (now (list .entry)) at) ⌝ }
+{
+    let step = list[at + 1] / 0x80000000 % 2;
+    if step == 0 {
+        apply_command(cells, fog, light, rows, held, list, at, 0);
+    } else {
+        apply_command(cells, fog, light, rows, held, list, at, 1);
+    }
+}
+
+// A well-formed list's expansion, one masked write after another.
+fn apply_list(cells: &mut [u32], fog: &mut [u32], light: &mut [u32], list: &[u32])
+    requires { ⌜ (length (now cells) ≡ 768) × (length (now fog) ≡ 128) × (length (now light) ≡ 6144) × (wellFormed (now list) ≡ true) ⌝ }
+    ensures { λ _. ⌜ st (now (cells .exit)) (now (fog .exit)) (now (light .exit)) ≡ applyAll (st (now (cells .entry)) (now (fog .entry)) (now (light .entry))) (expansion (now (list .entry))) ⌝ }
+{
+    let rows = registers::held::row_table();
+    let held = registers::held::held_table();
+    let mut at: usize = 0;
+    while at < list.len() {
+        apply_at(cells, fog, light, &rows, &held, list, at);
+        at += words_taken(list[at + 1]);
+    }
+}
+
+// A list read into a state: the number of its writes, or a refusal, 6 before 1 before the verdict's; a refused list changes nothing.
+pub fn read(cells: &mut [u32], fog: &mut [u32], light: &mut [u32], list: &[u32]) -> Verdict
+    ensures answer { λ r. ⌜ told r ≡ readAnswer (st (now (cells .entry)) (now (fog .entry)) (now (light .entry))) (now (list .entry)) ⌝ }
+    ensures state { λ _. ⌜ st (now (cells .exit)) (now (fog .exit)) (now (light .exit)) ≡ readState (st (now (cells .entry)) (now (fog .entry)) (now (light .entry))) (now (list .entry)) ⌝ }
+{
+    if !registers::is_sized(cells, fog, light) {
+        return Verdict::Refused(Refusal {
+            number: words::BUFFER_LENGTH,
+            place: 0,
+        });
+    }
+    if 65536 < list.len() {
+        return Verdict::Refused(Refusal {
+            number: words::LIST_TOO_LONG,
+            place: 0,
+        });
+    }
+    let verdict = judge_list(list);
+    let Verdict::Accepted(n) = verdict else {
+        return verdict;
+    };
+    apply_list(cells, fog, light, list);
+    Verdict::Accepted(n)
+}

@@ -1,69 +1,68 @@
+-- Group by group, as the calls ensure. Assumes nothing.
+use Rattle.decode.proofs.First.{lowest-checks}
+use Rattle.decode.specs.Records.{settingsIn}
 use borrow.Author.Needs.{needs}
 use Rattle.decode.proofs.codes.nameless_id.Statement.{statement}
 use Rattle.decode.proofs.codes.nameless_id.Tie as tie
-use Rattle.decode.proofs.codes.nameless_id.Reads as reads
-use Rattle.decode.proofs.codes.nameless_id.Lts as lts
-use Rattle.decode.proofs.codes.first_of.Reads as first-of-reads
-use Rattle.decode.proofs.codes.fog_lowest.Reads as fog-lowest-reads
-use Rattle.decode.proofs.codes.frame_lowest.Reads as frame-lowest-reads
-use Rattle.decode.proofs.codes.pair_lowest.Reads as pair-lowest-reads
 
--- src/codes.rt:177:24
-pair-lowest-requires : tie.Need-pair-lowest-requires
-pair-lowest-requires c κs = search needs
+shared-slice-read-update : tie.Need-shared-slice-read-update
+shared-slice-read-update c = search needs
 
--- src/codes.rt:177:50
-pair-lowest-requires-2 : tie.Need-pair-lowest-requires-2
-pair-lowest-requires-2 c κs = search needs
+frame-first-requires : tie.Need-frame-first-requires
+frame-first-requires c κs = search needs
 
--- src/codes.rt:177:9
+stage-first-requires : tie.Need-stage-first-requires
+stage-first-requires c κs = search needs
+
+stage-first-requires-2 : tie.Need-stage-first-requires-2
+stage-first-requires-2 c κs = search needs
+
+update-lacks-requires : tie.Need-update-lacks-requires
+update-lacks-requires c κs = search needs
+
 first-of-requires : tie.Need-first-of-requires
 first-of-requires c κs = search needs
 
--- src/codes.rt:179:34
-shared-slice-read-fog-lowest : tie.Need-shared-slice-read-fog-lowest
-shared-slice-read-fog-lowest c = search needs
+stage-first-requires-3 : tie.Need-stage-first-requires-3
+stage-first-requires-3 c κs = search needs
 
--- src/codes.rt:179:23
-fog-lowest-requires : tie.Need-fog-lowest-requires
-fog-lowest-requires c κs = search needs
+stage-first-requires-4 : tie.Need-stage-first-requires-4
+stage-first-requires-4 c κs = search needs
 
--- src/codes.rt:179:9
-first-of-requires-2 : tie.Need-first-of-requires-2
-first-of-requires-2 c κs = search needs
+stage-first-requires-5 : tie.Need-stage-first-requires-5
+stage-first-requires-5 c κs = search needs
 
--- src/codes.rt:180:9
-pair-lowest-requires-3 : tie.Need-pair-lowest-requires-3
-pair-lowest-requires-3 c κs = search needs
+stage-first-requires-6 : tie.Need-stage-first-requires-6
+stage-first-requires-6 c κs = search needs
 
--- src/codes.rt:178:9
-first-of-requires-3 : tie.Need-first-of-requires-3
-first-of-requires-3 c κs = search needs
-
--- src/codes.rt:182:19
-frame-lowest-requires : tie.Need-frame-lowest-requires
-frame-lowest-requires c κs = search needs
-
--- src/codes.rt:182:5
-first-of-requires-4 : tie.Need-first-of-requires-4
-first-of-requires-4 c κs = search needs
-
--- src/codes.rt:173:1
 returns : tie.Need-returns
-returns c = ?
+unfolding settingsIn
+returns c =
+    rw (
+      lowest-checks,
+      c .stage-first6 .ensures,
+      c .before .stage-first5 .ensures,
+      c .before .before .stage-first4 .ensures,
+      c .before .before .before .stage-first3 .ensures,
+      c .before .before .before .before .first-of .ensures,
+      c .before .before .before .before .before .update-lacks .ensures,
+      c .before .before .before .before .before .before .stage-first2 .ensures,
+      c .before .before .before .before .before .before .before .stage-first .ensures,
+      c .before .before .before .before .before .before .before .before .frame-first .ensures,
+    )
 
 pub nameless-id-spec : {M : Type 1} → statement M
 nameless-id-spec =
     tie.close
     (tie.spec
-    pair-lowest-requires
-    pair-lowest-requires-2
+    shared-slice-read-update
+    frame-first-requires
+    stage-first-requires
+    stage-first-requires-2
+    update-lacks-requires
     first-of-requires
-    shared-slice-read-fog-lowest
-    fog-lowest-requires
-    first-of-requires-2
-    pair-lowest-requires-3
-    first-of-requires-3
-    frame-lowest-requires
-    first-of-requires-4
+    stage-first-requires-3
+    stage-first-requires-4
+    stage-first-requires-5
+    stage-first-requires-6
     returns)

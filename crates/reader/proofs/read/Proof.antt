@@ -1,0 +1,125 @@
+-- Each way out is one case of the reading. Assumes nothing.
+use mathlib.Core.Path.{_≡_, sym, ap, _∙_}
+use borrow.Author.Tests.{not-true, not-false}
+use Rattle.registers.specs.State.{st}
+use Rattle.registers.proofs.Sizes.{lengths}
+use Rattle.reader.specs.Read.{told}
+use Rattle.reader.proofs.Accepted.{verdict-accepted}
+use Rattle.reader.proofs.Answers.{wrong-lengths, too-long, list-refused, list-accepted}
+use borrow.Author.Needs.{needs}
+use Rattle.reader.proofs.read.Statement.{statement}
+use Rattle.reader.proofs.read.Tie as tie
+
+is-sized-requires : tie.Need-is-sized-requires
+is-sized-requires c κs = search needs
+
+same-length : tie.Need-same-length
+same-length c = search needs
+
+same-length-2 : tie.Need-same-length-2
+same-length-2 c = search needs
+
+same-length-3 : tie.Need-same-length-3
+same-length-3 c = search needs
+
+returns : tie.Need-returns
+returns c =
+    let a = c .before .before .before .before .before .before .before .before .before .args in
+    let s = st (a .cells .now) (a .fog .now) (a .light .now) in
+    let r = wrong-lengths s (a .list .now) (sym (c .before .is-sized .ensures) ∙ not-true _ (c .if1 .taken)) in
+    (r .answer, r .state)
+
+same-length-4 : tie.Need-same-length-4
+same-length-4 c = search needs
+
+same-length-5 : tie.Need-same-length-5
+same-length-5 c = search needs
+
+same-length-6 : tie.Need-same-length-6
+same-length-6 c = search needs
+
+returns-2 : tie.Need-returns-2
+returns-2 c =
+    let a = c .before .before .before .before .before .before .before .before .before .before .args in
+    let s = st (a .cells .now) (a .fog .now) (a .light .now) in
+    let r = too-long s (a .list .now) (sym (c .before .before .is-sized .ensures) ∙ not-false _ (c .before .if1 .left)) (c .if2 .taken) in
+    (r .answer, r .state)
+
+judge-list-requires : tie.Need-judge-list-requires
+judge-list-requires c κs = search needs
+
+enum-known-verdict : tie.Need-enum-known-verdict
+enum-known-verdict c = search needs
+
+enum-told : tie.Need-enum-told
+enum-told c = search needs
+
+same-length-7 : tie.Need-same-length-7
+same-length-7 c = search needs
+
+same-length-8 : tie.Need-same-length-8
+same-length-8 c = search needs
+
+same-length-9 : tie.Need-same-length-9
+same-length-9 c = search needs
+
+returns-3 : tie.Need-returns-3
+returns-3 c =
+    let a = c .before .before .before .before .before .before .before .before .before .before .before .before .before .args in
+    let s = st (a .cells .now) (a .fog .now) (a .light .now) in
+    let k = sym (c .before .before .before .before .before .is-sized .ensures) ∙ not-false _ (c .before .before .before .before .if1 .left) in
+    let v = sym (c .before .before .judge-list .ensures) ∙ ap told (c .enum-told .given .1) in
+    let r = list-refused s (a .list .now) k (c .before .before .before .if2 .left) _ _ v in
+    (c .before .before .judge-list .ensures ∙ v ∙ r .answer, r .state)
+
+apply-list-requires : tie.Need-apply-list-requires
+apply-list-requires c κs =
+    let a = c .before .before .before .before .before .before .before .before .before .before .before .before .before .before .before .before .before .args in
+    let s = st (a .cells .now) (a .fog .now) (a .light .now) in
+    let k = lengths s (sym (c .before .before .before .before .before .before .before .before .before .is-sized .ensures) ∙ not-false _ (c .before .before .before .before .before .before .before .before .if1 .left)) in
+    let v = sym (c .before .before .before .before .before .before .judge-list .ensures) ∙ ap told (c .before .before .before .before .verdict .given .1) in
+    (k .0, k .1, k .2, verdict-accepted (a .list .now) _ v .0)
+
+same-length-10 : tie.Need-same-length-10
+same-length-10 c = search needs
+
+same-length-11 : tie.Need-same-length-11
+same-length-11 c = search needs
+
+same-length-12 : tie.Need-same-length-12
+same-length-12 c = search needs
+
+returns-4 : tie.Need-returns-4
+returns-4 c =
+    let a = c .before .before .before .before .before .before .before .before .before .before .before .before .before .before .before .before .before .before .before .before .before .before .before .before .args in
+    let s = st (a .cells .now) (a .fog .now) (a .light .now) in
+    let k = sym (c .before .before .before .before .before .before .before .before .before .before .before .before .before .before .before .before .is-sized .ensures) ∙ not-false _ (c .before .before .before .before .before .before .before .before .before .before .before .before .before .before .before .if1 .left) in
+    let v = sym (c .before .before .before .before .before .before .before .before .before .before .before .before .before .judge-list .ensures) ∙ ap told (c .before .before .before .before .before .before .before .before .before .before .before .verdict .given .1) in
+    let r = list-accepted s (a .list .now) k (c .before .before .before .before .before .before .before .before .before .before .before .before .before .before .if2 .left) _ v in
+    (r .answer, c .before .before .before .before .before .before .apply-list .ensures ∙ r .state)
+
+pub read-spec : {M : Type 1} → statement M
+read-spec =
+    tie.close
+    (tie.spec
+    is-sized-requires
+    same-length
+    same-length-2
+    same-length-3
+    returns
+    same-length-4
+    same-length-5
+    same-length-6
+    returns-2
+    judge-list-requires
+    enum-known-verdict
+    enum-told
+    same-length-7
+    same-length-8
+    same-length-9
+    returns-3
+    apply-list-requires
+    same-length-10
+    same-length-11
+    same-length-12
+    returns-4)
