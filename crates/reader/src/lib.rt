@@ -8,7 +8,7 @@ ghost use Rattle.numbers.specs.Pick.{pick};
 ghost use Rattle.words.specs.Header.{wordsOf, stepOf};
 ghost use Rattle.words.specs.Commands.{headerAt, expand, expansion, wellFormed};
 ghost use Rattle.registers.specs.State.{st};
-ghost use Rattle.registers.specs.Tables.{heldTable, rowTable};
+ghost use Rattle.registers.specs.Tables.{heldTable, slotTable};
 ghost use Rattle.registers.specs.Applied.{applyAll};
 ghost use Rattle.reader.specs.Verdict.{verdict};
 ghost use Rattle.reader.specs.Read.{told, readAnswer, readState};
@@ -75,25 +75,25 @@ fn apply_command(
     cells: &mut [u32],
     fog: &mut [u32],
     light: &mut [u32],
-    rows: &[u8; 768],
+    slots: &[u8; 256],
     held: &[u64; 66],
     list: &[u32],
     at: usize,
     step: u32,
 )
-    requires { ⌜ (length (now cells) ≡ 768) × (length (now fog) ≡ 128) × (length (now light) ≡ 6144) × (now rows ≡ rowTable) × (now held ≡ heldTable) ⌝ }
+    requires { ⌜ (length (now cells) ≡ 768) × (length (now fog) ≡ 128) × (length (now light) ≡ 6144) × (now slots ≡ slotTable) × (now held ≡ heldTable) ⌝ }
     requires { ⌜ (at + wordsOf (headerAt (now list) at) ≤ length (now list)) × (step ≡ stepOf (headerAt (now list) at)) ⌝ }
     ensures { λ _. ⌜ st (now (cells .exit)) (now (fog .exit)) (now (light .exit)) ≡ applyAll (st (now (cells .entry)) (now (fog .entry)) (now (light .entry))) (expand (now (list .entry)) at) ⌝ }
 {
     let h = list[at + 1];
     let bytes = registers::spread_mask(h / 0x10000 % 16);
     let mut id = h % 0x10000;
-    registers::put_one(cells, fog, light, rows, held, id, bytes, list[at]);
+    registers::put_one(cells, fog, light, slots, held, id, bytes, list[at]);
     let mut left = h / 0x100000 % 256;
     let mut j = at + 2;
     while 0 < left {
         id += step;
-        registers::put_one(cells, fog, light, rows, held, id, bytes, list[j]);
+        registers::put_one(cells, fog, light, slots, held, id, bytes, list[j]);
         j += 1;
         left -= 1;
     }
@@ -104,20 +104,20 @@ fn apply_at(
     cells: &mut [u32],
     fog: &mut [u32],
     light: &mut [u32],
-    rows: &[u8; 768],
+    slots: &[u8; 256],
     held: &[u64; 66],
     list: &[u32],
     at: usize,
 )
-    requires { ⌜ (length (now cells) ≡ 768) × (length (now fog) ≡ 128) × (length (now light) ≡ 6144) × (now rows ≡ rowTable) × (now held ≡ heldTable) ⌝ }
+    requires { ⌜ (length (now cells) ≡ 768) × (length (now fog) ≡ 128) × (length (now light) ≡ 6144) × (now slots ≡ slotTable) × (now held ≡ heldTable) ⌝ }
     requires { ⌜ at + wordsOf (headerAt (now list) at) ≤ length (now list) ⌝ }
     ensures { λ _. ⌜ st (now (cells .exit)) (now (fog .exit)) (now (light .exit)) ≡ applyAll (st (now (cells .entry)) (now (fog .entry)) (now (light .entry))) (expand (now (list .entry)) at) ⌝ }
 {
     let step = list[at + 1] / 0x80000000 % 2;
     if step == 0 {
-        apply_command(cells, fog, light, rows, held, list, at, 0);
+        apply_command(cells, fog, light, slots, held, list, at, 0);
     } else {
-        apply_command(cells, fog, light, rows, held, list, at, 1);
+        apply_command(cells, fog, light, slots, held, list, at, 1);
     }
 }
 
@@ -126,11 +126,11 @@ fn apply_list(cells: &mut [u32], fog: &mut [u32], light: &mut [u32], list: &[u32
     requires { ⌜ (length (now cells) ≡ 768) × (length (now fog) ≡ 128) × (length (now light) ≡ 6144) × (wellFormed (now list) ≡ true) ⌝ }
     ensures { λ _. ⌜ st (now (cells .exit)) (now (fog .exit)) (now (light .exit)) ≡ applyAll (st (now (cells .entry)) (now (fog .entry)) (now (light .entry))) (expansion (now (list .entry))) ⌝ }
 {
-    let rows = registers::held::row_table();
+    let slots = registers::held::slot_table();
     let held = registers::held::held_table();
     let mut at: usize = 0;
     while at < list.len() {
-        apply_at(cells, fog, light, &rows, &held, list, at);
+        apply_at(cells, fog, light, &slots, &held, list, at);
         at += words_taken(list[at + 1]);
     }
 }

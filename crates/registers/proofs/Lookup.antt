@@ -1,54 +1,70 @@
--- The look-up's rule: the bits of an id's row are the bits that it holds. One test, computed over the 768 ids. Assumes nothing.
-use mathlib.Core.Path.{_≡_, refl}
+-- The look-up's rule: a row whose id is the one looked for has its bits; an id without such a row holds none. One test, computed over the 768 ids.
+-- Assumes nothing.
+use mathlib.Core.Path.{_≡_, refl, sym, _∙_}
 use mathlib.Core.Bool.{Bool, true, false, not, _&&_}
 use mathlib.Core.List.{List, [], _∷_}
-use Prim.Native.Nat.{ℕ, _%_, _<_, _≤_}
+use Prim.Native.Nat.{ℕ, _/_, _%_, _<_, _≤_}
+use native.Mathlib.Decide.{decLt}
 use native.Mathlib.Omega.{arith}
 use lib.Dec.{eqb, ltb}
-use lib.ListN.{getD}
-use borrow.Author.Tests.{lt-ltb, le-ltb, ne-eqb, ltb-true, eqb-true, not-true}
+use lib.ListN.{length, getD, replicate, length-replicate}
+use borrow.Author.Tests.{eq-eqb, ne-eqb, ltb-true, eqb-true, not-true}
 use Rattle.numbers.specs.Pick.{pick}
 use Rattle.numbers.proofs.Tests.{is-true, and-true}
 use Rattle.numbers.proofs.Table.{at}
 use Rattle.words.specs.Writes.{fogData, lightData}
 use Rattle.registers.specs.Held.{Row, held, bitsIn, bitsOf}
-use Rattle.registers.specs.Tables.{heldTable, rowIn, rowTable}
+use Rattle.registers.specs.Tables.{heldTable, rowIn, slotTable}
 
--- a row holds some bits, and its id is no port's data; an id without a row holds none
-right : ℕ → ℕ → Bool
-right k r =
-    pick (ltb r 66) (eqb (getD heldTable r 0 % 0x100000000) (bitsOf k) && not (eqb (bitsOf k) 0) && not (fogData k) && not (lightData k))
+-- the row that is looked at for id k
+abbrev pub rowAt : ℕ → ℕ
+rowAt k = getD heldTable (getD slotTable (k % 256) 0) 0
+
+-- a row of k holds some bits, and k is no port's data; else k holds none
+right : ℕ → Bool
+right k =
+    pick (eqb (rowAt k / 0x100000000) k)
+    (eqb (rowAt k % 0x100000000) (bitsOf k) && not (eqb (bitsOf k) 0) && not (fogData k) && not (lightData k))
     (eqb (bitsOf k) 0)
 
-rule : (k r : ℕ) → k < 768 → r ≡ getD rowTable k 0 → right k r ≡ true
-unfolding right rowTable heldTable bitsOf bitsIn rowIn held
-rule k r h e = rw e (is-true (right k (getD rowTable k 0)) (at right rowTable tt k h))
+rule : (k : ℕ) → k < 768 → right k ≡ true
+unfolding right slotTable heldTable bitsOf bitsIn rowIn held
+rule k h = is-true (right k) (at (λ k _. right k) (replicate 768 0) tt k (omega (arith, length-replicate {A = ℕ} 768 0)))
 
-pub record Has (k r : ℕ) : Type 0 where
-  pub bits : getD heldTable r 0 % 0x100000000 ≡ bitsOf k
+-- the row looked at is one of the table's, and its id is at most 2FFh
+pub slot-small : (j : ℕ) → j < 256 → getD slotTable j 0 < 66
+unfolding slotTable rowIn held
+slot-small j h = ltb-true (getD slotTable j 0) 66 (is-true _ (at (λ _ r. ltb r 66) slotTable tt j h))
+
+pub row-small : (r : ℕ) → r < 66 → getD heldTable r 0 / 0x100000000 < 768
+unfolding heldTable held
+row-small r h = ltb-true (getD heldTable r 0 / 0x100000000) 768 (is-true _ (at (λ _ w. ltb (w / 0x100000000) 768) heldTable tt r h))
+
+pub record Has (k : ℕ) : Type 0 where
+  pub small : k < 768
+  pub bits : rowAt k % 0x100000000 ≡ bitsOf k
   pub some : eqb (bitsOf k) 0 ≡ false
   pub noFog : fogData k ≡ false
   pub noLight : lightData k ≡ false
 
-pub row-has : (k r : ℕ) → k < 768 → r ≡ getD rowTable k 0 → r < 66 → Has k r
+pub row-has : (k : ℕ) → eqb (rowAt k / 0x100000000) k ≡ true → Has k
 unfolding right
-row-has k r h e l =
-    let B = eqb (getD heldTable r 0 % 0x100000000) (bitsOf k) in
+row-has k e =
+    let d : rowAt k / 0x100000000 ≡ k = eqb-true (rowAt k / 0x100000000) k e in
+    let l : k < 768 = omega (arith, row-small (getD slotTable (k % 256) 0) (slot-small (k % 256) (omega arith))) in
+    let B = eqb (rowAt k % 0x100000000) (bitsOf k) in
     let N = not (eqb (bitsOf k) 0) in
     let F = not (fogData k) in
-    let p = and-true (B && N && F) (not (lightData k)) (rw (lt-ltb r 66 l) at (rule k r h e)) in
+    let p = and-true (B && N && F) (not (lightData k)) (rw e at (rule k l)) in
     let q = and-true (B && N) F (p .0) in
     let s = and-true B N (q .0) in
     record {
-      bits = eqb-true (getD heldTable r 0 % 0x100000000) (bitsOf k) (s .0);
+      small = l;
+      bits = eqb-true (rowAt k % 0x100000000) (bitsOf k) (s .0);
       some = not-true (eqb (bitsOf k) 0) (s .1);
       noFog = not-true (fogData k) (q .1);
       noLight = not-true (lightData k) (p .1);
     }
-
-pub row-none : (k r : ℕ) → k < 768 → r ≡ getD rowTable k 0 → 66 ≤ r → eqb (bitsOf k) 0 ≡ true
-unfolding right
-row-none k r h e l = rw (le-ltb r 66 l) at (rule k r h e)
 
 -- no row has an id above 2FFh
 below : List Row → Bool
@@ -63,6 +79,14 @@ none-above (r ∷ rs) k t h =
     let l = ltb-true (r .id) 768 (u .0) in
     rw (ne-eqb (r .id) k (λ e. omega arith)) (none-above rs k (u .1) h)
 
-pub above-none : (k : ℕ) → 768 ≤ k → bitsOf k ≡ 0
+above-none : (k : ℕ) → 768 ≤ k → bitsOf k ≡ 0
 unfolding bitsOf below held
 above-none k h = none-above held k refl h
+
+by-size : (k : ℕ) → Dec (k < 768) → eqb (rowAt k / 0x100000000) k ≡ false → eqb (bitsOf k) 0 ≡ true
+unfolding right
+by-size k (yes l) e = rw e at (rule k l)
+by-size k (no l) e = eq-eqb (bitsOf k) 0 (above-none k (omega arith))
+
+pub row-none : (k : ℕ) → eqb (rowAt k / 0x100000000) k ≡ false → eqb (bitsOf k) 0 ≡ true
+row-none k e = by-size k (decLt k 768) e

@@ -12,7 +12,7 @@ use Rattle.numbers.specs.Bits.{spread}
 use Rattle.words.specs.Writes.{writing}
 use Rattle.words.proofs.Once.{refusal-one}
 use Rattle.registers.specs.State.{State, st, sized}
-use Rattle.registers.specs.Tables.{rowTable, heldTable}
+use Rattle.registers.specs.Tables.{slotTable, heldTable}
 use Rattle.registers.specs.Applied.{put}
 use Rattle.registers.specs.Single.{told, writeAnswer, writeState}
 use Rattle.registers.specs.declared.Written.{Written}
@@ -23,8 +23,8 @@ use Rattle.registers.proofs.spread_mask.Reads as spread-mask
 use Rattle.registers.proofs.spread_mask.Kinds as spread-mask-kinds
 use Rattle.registers.proofs.put_one.Reads as put-one
 use Rattle.registers.proofs.put_one.Kinds as put-one-kinds
-use Rattle.registers.proofs.held.row_table.Reads as row-table
-use Rattle.registers.proofs.held.row_table.Kinds as row-table-kinds
+use Rattle.registers.proofs.held.slot_table.Reads as slot-table
+use Rattle.registers.proofs.held.slot_table.Kinds as slot-table-kinds
 use Rattle.registers.proofs.held.held_table.Reads as held-table
 use Rattle.registers.proofs.held.held_table.Kinds as held-table-kinds
 use Rattle.registers.proofs.write.Reads as write
@@ -52,8 +52,8 @@ is-sized-settled κs a =
 pub spread-mask-settled : (κs : Lfts 0) (a : Dens κs spread-mask-kinds.ps) → Settles (λ e. tt {0}) (spread-mask.Post κs a)
 spread-mask-settled κs a = settled _ _ (λ r. r) (λ r r′ e. e) (spread (a .0)) tt (λ r e p. (p, refl))
 
-pub row-table-settled : (κs : Lfts 0) (a : Dens κs row-table-kinds.ps) → Settles (λ e. tt {0}) (row-table.Post κs a)
-row-table-settled κs a = settled _ _ (λ r. r) (λ r r′ e. e) rowTable tt (λ r e p. (p, refl))
+pub slot-table-settled : (κs : Lfts 0) (a : Dens κs slot-table-kinds.ps) → Settles (λ e. tt {0}) (slot-table.Post κs a)
+slot-table-settled κs a = settled _ _ (λ r. r) (λ r r′ e. e) slotTable tt (λ r e p. (p, refl))
 
 pub held-table-settled : (κs : Lfts 0) (a : Dens κs held-table-kinds.ps) → Settles (λ e. tt {0}) (held-table.Post κs a)
 held-table-settled κs a = settled _ _ (λ r. r) (λ r r′ e. e) heldTable tt (λ r e p. (p, refl))

@@ -1,11 +1,12 @@
 // What one write does to a state of three lent buffers. The contracts cite specs/Applied.antt and specs/Single.antt.
 ghost use mathlib.Core.Path.{_≡_};
-ghost use Prim.Native.Nat.{_%_};
+ghost use Prim.Native.Nat.{_/_, _%_, _<_};
+ghost use lib.Dec.{eqb};
 ghost use lib.ListN.{length};
 ghost use Rattle.numbers.specs.Bits.{spread, merge};
 ghost use Rattle.words.specs.Writes.{writing};
 ghost use Rattle.registers.specs.State.{st, sized};
-ghost use Rattle.registers.specs.Tables.{heldTable, rowTable};
+ghost use Rattle.registers.specs.Tables.{heldTable, slotTable};
 ghost use Rattle.registers.specs.Ports.{entry, rise, fogCells, fogEntries, lightCells, lightEntries};
 ghost use Rattle.registers.specs.Applied.{put};
 ghost use Rattle.registers.specs.Single.{told, writeAnswer, writeState};
@@ -37,19 +38,33 @@ fn entered(old: u32, v: u32) -> u32
 fn risen128(x: u32) -> u32
     ensures { λ r. ⌜ r ≡ rise 128 x ⌝ }
 {
-    x / 128 * 128 + (x % 128 + 1) % 128
+    if x % 128 == 127 { x - 127 } else { x + 1 }
 }
 
 fn risen256(x: u32) -> u32
     ensures { λ r. ⌜ r ≡ rise 256 x ⌝ }
 {
-    x / 256 * 256 + (x % 256 + 1) % 256
+    if x % 256 == 255 { x - 255 } else { x + 1 }
 }
 
 fn wide(x: u8) -> usize
     ensures { λ r. ⌜ r ≡ x ⌝ }
 {
     x as usize
+}
+
+// The low byte of an id.
+fn low_byte(id: u32) -> usize
+    ensures { λ r. ⌜ (r ≡ id % 256) × (r < 256) ⌝ }
+{
+    (id % 256) as usize
+}
+
+// The row is that of the id.
+fn is_row_of(row: u64, id: u32) -> bool
+    ensures { λ r. ⌜ r ≡ eqb (row / 0x100000000) id ⌝ }
+{
+    row / 0x100000000 == id as u64
 }
 
 // The held bits of a row.
@@ -89,22 +104,20 @@ pub fn put_one(
     cells: &mut [u32],
     fog: &mut [u32],
     light: &mut [u32],
-    rows: &[u8; 768],
+    slots: &[u8; 256],
     held: &[u64; 66],
     id: u32,
     bytes: u32,
     value: u32,
 )
-    requires { ⌜ (length (now cells) ≡ 768) × (length (now fog) ≡ 128) × (length (now light) ≡ 6144) × (now rows ≡ rowTable) × (now held ≡ heldTable) ⌝ }
+    requires { ⌜ (length (now cells) ≡ 768) × (length (now fog) ≡ 128) × (length (now light) ≡ 6144) × (now slots ≡ slotTable) × (now held ≡ heldTable) ⌝ }
     ensures { λ _. ⌜ st (now (cells .exit)) (now (fog .exit)) (now (light .exit)) ≡ put (st (now (cells .entry)) (now (fog .entry)) (now (light .entry))) id bytes value ⌝ }
 {
-    if 768 <= id {
-        return;
-    }
-    let i = id as usize;
-    let row = wide(rows[i]);
-    if row < 66 {
-        cells[i] = merged(bits_of(held[row]) & bytes, cells[i], value);
+    let slot = wide(slots[low_byte(id)]);
+    let row = held[slot];
+    if is_row_of(row, id) {
+        let i = id as usize;
+        cells[i] = merged(bits_of(row) & bytes, cells[i], value);
         return;
     }
     if (0xE8 <= id) & (id <= 0xEF) {
@@ -159,13 +172,13 @@ pub fn write(
             place: 0,
         });
     }
-    let rows = held::row_table();
+    let slots = held::slot_table();
     let held = held::held_table();
     put_one(
         cells,
         fog,
         light,
-        &rows,
+        &slots,
         &held,
         id,
         spread_mask(mask),

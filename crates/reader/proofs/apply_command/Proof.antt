@@ -13,13 +13,13 @@ use Rattle.reader.proofs.apply_command.Statement.{statement}
 use Rattle.reader.proofs.apply_command.Tie as tie
 
 abbrev Inv-loop : tie.InvT-loop
-Inv-loop cells₀ fog₀ light₀ rows held list at step h bytes id₀ left₀ j₀ cells fog light id left j =
+Inv-loop cells₀ fog₀ light₀ slots held list at step h bytes id₀ left₀ j₀ cells fog light id left j =
     (length cells ≡ 768) × (length fog ≡ 128) × (length light ≡ 6144)
     × (j + left ≡ at + 2 + countOf (headerAt list at)) × (at + 2 ≤ j) × (id + left ≤ 65792)
     × (applyAll (st cells fog light) (run list at left (j - (at + 1)) (id + stepOf (headerAt list at))) ≡ applyAll (st cells₀ fog₀ light₀) (run list at left₀ (j₀ - (at + 1)) (id₀ + stepOf (headerAt list at))))
 
 abbrev μ-loop : tie.MeasureT-loop
-μ-loop cells₀ fog₀ light₀ rows held list at step h bytes id₀ left₀ j₀ cells fog light id left j = left
+μ-loop cells₀ fog₀ light₀ slots held list at step h bytes id₀ left₀ j₀ cells fog light id left j = left
 
 add-h : tie.Need-add-h Inv-loop μ-loop
 add-h c = search needs

@@ -14,15 +14,15 @@ use Rattle.reader.proofs.apply_list.Statement.{statement}
 use Rattle.reader.proofs.apply_list.Tie as tie
 
 abbrev Inv-loop : tie.InvT-loop
-Inv-loop cells₀ fog₀ light₀ list rows held at₀ cells fog light at =
+Inv-loop cells₀ fog₀ light₀ list slots held at₀ cells fog light at =
     (length cells ≡ 768) × (length fog ≡ 128) × (length light ≡ 6144) × (at ≤ length list) × (full list (commands list at) ≡ true)
     × (applyAll (st cells fog light) (join list (commands list at)) ≡ applyAll (st cells₀ fog₀ light₀) (join list (commands list 0)))
 
 abbrev μ-loop : tie.MeasureT-loop
-μ-loop cells₀ fog₀ light₀ list rows held at₀ cells fog light at = length list - at
+μ-loop cells₀ fog₀ light₀ list slots held at₀ cells fog light at = length list - at
 
-row-table-requires : tie.Need-row-table-requires Inv-loop μ-loop
-row-table-requires c κs = search needs
+slot-table-requires : tie.Need-slot-table-requires Inv-loop μ-loop
+slot-table-requires c κs = search needs
 
 held-table-requires : tie.Need-held-table-requires Inv-loop μ-loop
 held-table-requires c κs = search needs
@@ -37,7 +37,7 @@ apply-at-requires c κs =
     let a = c .before .before .before .before .before .before .before .before .before .before .before .before .before in
     let i = c .before .before .before .before .before .before .loop .inv in
     let n = full-next (a .args .list .now) (c .before .before .before .before .before .before .loop .at) (c .before .before .before .before .before .loop-test .taken) (i .4) in
-    ((i .0, i .1, i .2, c .before .before .before .before .before .before .before .before .row-table .ensures, c .before .before .before .before .before .before .before .held-table .ensures), n .0)
+    ((i .0, i .1, i .2, c .before .before .before .before .before .before .before .before .slot-table .ensures, c .before .before .before .before .before .before .before .held-table .ensures), n .0)
 
 add-words-taken : tie.Need-add-words-taken Inv-loop μ-loop
 add-words-taken c = search needs
@@ -99,7 +99,7 @@ apply-list-spec =
     (tie.spec
     Inv-loop
     μ-loop
-    row-table-requires
+    slot-table-requires
     held-table-requires
     loop-holds
     apply-at-requires

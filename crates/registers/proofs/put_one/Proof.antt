@@ -1,17 +1,28 @@
 -- Each way out is one case of `put`. Assumes nothing.
-use mathlib.Core.Path.{_≡_, sym, ap, _∙_}
-use mathlib.Core.List.{List}
-use Prim.Native.Nat.{ℕ}
+use mathlib.Core.Path.{_≡_, sym, _∙_}
+use Prim.Native.Nat.{_/_, _%_, _<_}
+use native.Mathlib.Omega.{arith}
+use lib.Dec.{eqb}
 use lib.ListN.{getD}
-use Rattle.registers.specs.Tables.{rowTable}
-use Rattle.registers.proofs.Puts.{put-above, put-held, put-fog-data, put-light-data, put-none}
+use Rattle.registers.specs.Tables.{heldTable, slotTable}
+use Rattle.registers.proofs.Lookup.{rowAt, slot-small, row-has, row-none}
+use Rattle.registers.proofs.Puts.{put-held, put-fog-data, put-light-data, put-free}
 use borrow.Author.Needs.{needs}
 use Rattle.registers.proofs.put_one.Statement.{statement}
 use Rattle.registers.proofs.put_one.Tie as tie
 
-returns : tie.Need-returns
-returns c =
-    sym (put-above _ _ _ _ (c .if1 .taken))
+-- the slot that is looked at, and the row in it
+slot-of : (c : tie.After-wide) → c .wide .result ≡ getD slotTable (c .before .before .before .before .before .before .args .id % 256) 0
+slot-of c = c .wide .ensures ∙ rw (c .before .before .low-byte .ensures .0, c .before .before .before .before .before .before .pre .3)
+
+small : (c : tie.After-wide) → c .wide .result < 66
+small c = rw (slot-of c) (slot-small (c .before .before .before .before .before .before .args .id % 256) (omega arith))
+
+test : (c : tie.After-is-row-of) → eqb (rowAt (c .before .before .before .before .before .before .before .before .args .id) / 0x100000000) (c .before .before .before .before .before .before .before .before .args .id) ≡ c .is-row-of .result
+test c = sym (c .is-row-of .ensures ∙ rw (c .before .before .before .before .before .before .before .before .pre .4, slot-of (c .before .before)))
+
+low-byte-requires : tie.Need-low-byte-requires
+low-byte-requires c κs = search needs
 
 element-copy-out-wide : tie.Need-element-copy-out-wide
 element-copy-out-wide c = search needs
@@ -19,11 +30,16 @@ element-copy-out-wide c = search needs
 wide-requires : tie.Need-wide-requires
 wide-requires c κs = search needs
 
-mul-bits-of : tie.Need-mul-bits-of
-mul-bits-of c = search needs
+mul-row : tie.Need-mul-row
+mul-row c =
+    let s : c .wide .result < 66 = small c in omega arith
 
-element-copy-out-bits-of : tie.Need-element-copy-out-bits-of
-element-copy-out-bits-of c = search needs
+element-copy-out-row : tie.Need-element-copy-out-row
+element-copy-out-row c =
+    let s : c .wide .result < 66 = small c in omega arith
+
+is-row-of-requires : tie.Need-is-row-of-requires
+is-row-of-requires c κs = search needs
 
 bits-of-requires : tie.Need-bits-of-requires
 bits-of-requires c κs = search needs
@@ -32,7 +48,8 @@ mul-merged : tie.Need-mul-merged
 mul-merged c = search needs
 
 slice-read-merged : tie.Need-slice-read-merged
-slice-read-merged c = search needs
+slice-read-merged c =
+    let i = row-has (c .before .before .before .before .before .before .before .before .before .before .before .args .id) (test (c .before .before .before) ∙ c .before .before .if1 .taken) .small in omega arith
 
 merged-requires : tie.Need-merged-requires
 merged-requires c κs = search needs
@@ -41,16 +58,17 @@ mul-cells : tie.Need-mul-cells
 mul-cells c = search needs
 
 slice-write-cells : tie.Need-slice-write-cells
-slice-write-cells c = search needs
+slice-write-cells c =
+    let i = row-has (c .before .before .before .before .before .before .before .before .before .before .before .before .args .id) (test (c .before .before .before .before) ∙ c .before .before .before .if1 .taken) .small in omega arith
 
 same-length : tie.Need-same-length
 same-length c = search needs
 
-returns-2 : tie.Need-returns-2
-returns-2 c =
-    let a = c .before .before .before .before .before .before .before .before .before .before .before in
-    let r : c .before .before .before .before .before .wide .result ≡ getD rowTable (a .args .id) 0 = c .before .before .before .before .before .wide .ensures ∙ ap (λ (l : List ℕ). getD l (a .args .id) 0) (a .pre .3) in
-    rw (put-held _ (a .args .id) (a .args .bytes) (a .args .value) (c .before .before .before .before .before .before .before .if1 .left) _ r (c .before .before .before .before .if2 .taken), c .merged .ensures, c .before .before .bits-of .ensures, a .pre .4)
+returns : tie.Need-returns
+returns c =
+    let a = c .before .before .before .before .before .before .before .before .before .before .before .before in
+    let h = test (c .before .before .before .before) ∙ c .before .before .before .if1 .taken in
+    rw (put-held _ (a .args .id) (a .args .bytes) (a .args .value) h, c .merged .ensures, c .before .before .bits-of .ensures, a .pre .4, slot-of (c .before .before .before .before .before .before))
 
 put-fog-requires : tie.Need-put-fog-requires
 put-fog-requires c κs = search needs
@@ -61,9 +79,9 @@ same-length-2 c = search needs
 same-length-3 : tie.Need-same-length-3
 same-length-3 c = search needs
 
-returns-3 : tie.Need-returns-3
-returns-3 c =
-    rw (put-fog-data _ _ _ _ (c .before .before .before .before .before .before .before .if3 .taken)) (cc)
+returns-2 : tie.Need-returns-2
+returns-2 c =
+    rw (put-fog-data _ _ _ _ (c .before .before .before .before .before .before .before .if2 .taken), c .before .before .before .before .put-fog .ensures .0, c .before .before .before .before .put-fog .ensures .1)
 
 put-light-requires : tie.Need-put-light-requires
 put-light-requires c κs = search needs
@@ -74,25 +92,26 @@ same-length-4 c = search needs
 same-length-5 : tie.Need-same-length-5
 same-length-5 c = search needs
 
+returns-3 : tie.Need-returns-3
+returns-3 c =
+    rw (put-light-data _ _ _ _ (c .before .before .before .before .before .before .before .before .if2 .left) (c .before .before .before .before .before .before .before .if3 .taken), c .before .before .before .before .put-light .ensures .0, c .before .before .before .before .put-light .ensures .1)
+
 returns-4 : tie.Need-returns-4
 returns-4 c =
-    rw (put-light-data _ _ _ _ (c .before .before .before .before .before .before .before .before .if3 .left) (c .before .before .before .before .before .before .before .if4 .taken)) (cc)
-
-returns-5 : tie.Need-returns-5
-returns-5 c =
-    let a = c .before .before .before .before .before .before .before .before .before in
-    let r : c .before .before .before .wide .result ≡ getD rowTable (a .args .id) 0 = c .before .before .before .wide .ensures ∙ ap (λ (l : List ℕ). getD l (a .args .id) 0) (a .pre .3) in
-    sym (put-none _ (a .args .id) (a .args .bytes) (a .args .value) (c .before .before .before .before .before .if1 .left) _ r (c .before .before .if2 .left) (c .before .if3 .left) (c .if4 .left))
+    let a = c .before .before .before .before .before .before .before .before .before .before .before in
+    let h = row-none (a .args .id) (test (c .before .before .before) ∙ c .before .before .if1 .left) in
+    sym (put-free _ (a .args .id) (a .args .bytes) (a .args .value) (c .before .if2 .left) (c .if3 .left) h)
 
 pub put-one-spec : {M : Type 1} → statement M
 put-one-spec =
     tie.close
     (tie.spec
-    returns
+    low-byte-requires
     element-copy-out-wide
     wide-requires
-    mul-bits-of
-    element-copy-out-bits-of
+    mul-row
+    element-copy-out-row
+    is-row-of-requires
     bits-of-requires
     mul-merged
     slice-read-merged
@@ -100,13 +119,13 @@ put-one-spec =
     mul-cells
     slice-write-cells
     same-length
-    returns-2
+    returns
     put-fog-requires
     same-length-2
     same-length-3
-    returns-3
+    returns-2
     put-light-requires
     same-length-4
     same-length-5
-    returns-4
-    returns-5)
+    returns-3
+    returns-4)

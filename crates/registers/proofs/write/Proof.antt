@@ -66,8 +66,8 @@ returns-3 c =
     let k = sym (c .before .before .before .before .is-sized .ensures) ∙ not-false _ (c .before .before .before .if1 .left) in
     write-refused s w _ (c .if3 .taken) (fault-refusal s w k (c .before .before .if2 .left) ∙ sym (c .before .fault .ensures))
 
-row-table-requires : tie.Need-row-table-requires
-row-table-requires c κs = search needs
+slot-table-requires : tie.Need-slot-table-requires
+slot-table-requires c κs = search needs
 
 held-table-requires : tie.Need-held-table-requires
 held-table-requires c κs = search needs
@@ -80,7 +80,7 @@ put-one-requires c κs =
     let a = c .before .before .before .before .before .before .before .before .before .before .before .before .before .before .before .before .before .before .before .args in
     let s = st (a .cells .now) (a .fog .now) (a .light .now) in
     let k = lengths s (sym (c .before .before .before .before .before .before .before .before .before .before .before .before .is-sized .ensures) ∙ not-false _ (c .before .before .before .before .before .before .before .before .before .before .before .if1 .left)) in
-    (k .0, k .1, k .2, c .before .before .before .before .before .before .before .row-table .ensures, c .before .before .before .before .before .before .held-table .ensures)
+    (k .0, k .1, k .2, c .before .before .before .before .before .before .before .slot-table .ensures, c .before .before .before .before .before .before .held-table .ensures)
 
 same-length-10 : tie.Need-same-length-10
 same-length-10 c = search needs
@@ -118,7 +118,7 @@ write-spec =
     same-length-8
     same-length-9
     returns-3
-    row-table-requires
+    slot-table-requires
     held-table-requires
     spread-mask-requires
     put-one-requires
