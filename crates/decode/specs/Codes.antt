@@ -1,5 +1,5 @@
 -- Codes without a name: the list, the registers that hold such codes, and the lowest id among them.
-use mathlib.Core.Bool.{Bool, not, _&&_, _||_}
+use mathlib.Core.Bool.{Bool, false, not, _&&_, _||_}
 use mathlib.Core.List.{List, [], _∷_, _++_}
 use Prim.Native.Nat.{ℕ, _+_}
 use lib.Dec.{eqb, leb, ltb}
@@ -125,6 +125,11 @@ checks s =
     ++ stageChecks 0xF0 (s .stages .stage4)
     ++ stageChecks 0xF8 (s .stages .stage5)
     ++ frameChecks (s .framebuffer)
+
+-- the register i lacks a name
+unfoldable pub lacksAt : List Check → ℕ → Bool
+lacksAt [] i = false
+lacksAt (c ∷ cs) i = let later = lacksAt cs i in pick (eqb (c .id) i) (c .lacks) later
 
 -- the first id of a list of checks that lacks a name, else the rest
 unfoldable pub firstOf : List Check → ℕ → ℕ

@@ -1,18 +1,34 @@
 -- What `decode` answers: the decoded state, or a refusal, 6 and then 13.
+use mathlib.Core.Bool.{Bool}
+use mathlib.Core.List.{List, [], _∷_}
 use Prim.Native.Nat.{ℕ}
 use lib.Dec.{eqb}
 use Rattle.numbers.specs.Pick.{pick}
 use Rattle.registers.specs.State.{State, sized}
 use Rattle.decode.specs.Ranges.{inCells}
-use Rattle.decode.specs.Records.{settingsIn}
-use Rattle.decode.specs.Codes.{checks, lowest}
+use Rattle.decode.specs.Settings.{settingsIn}
+use Rattle.decode.specs.Codes.{checks, lacksAt, lowest}
+use Rattle.decode.specs.Flat.{flat}
 use Rattle.decode.specs.declared.records.Settings.{Settings}
 use Rattle.decode.specs.declared.Decoded.{Decoded}
 use Rattle.decode.specs.declared.Decoded.the-variants.{Held, Refused}
 
+-- the document's number and values for each case: 0 and the fields, one word each; a refusal's number and its place
+abbrev pub numberOf : Decoded → ℕ
+numberOf (Held s) = 0
+numberOf (Refused r) = r .number
+
+abbrev pub valuesOf : Decoded → List ℕ
+valuesOf (Held s) = flat s
+valuesOf (Refused r) = r .place ∷ []
+
 -- the fields of a state's cells
 abbrev pub settingsOf : State → Settings
 settingsOf s = settingsIn (inCells (s .cells))
+
+-- the register i holds a code without a name
+abbrev pub nameless : State → ℕ → Bool
+nameless s i = lacksAt (checks (settingsOf s)) i
 
 -- the lowest id that holds a code without a name, 0 for none
 abbrev pub namelessId : State → ℕ

@@ -1,4 +1,9 @@
 pub mod Ranges
-pub mod Records
+pub mod Rasteriser
+pub mod Stages
+pub mod Framebuffer
+pub mod Settings
+pub mod Fields
+pub mod Flat
 pub mod Codes
 pub mod Decoded

@@ -11,12 +11,20 @@ abbrev pub from : ℕ → ℕ → ℕ
 from zero x = x
 from (suc n) x = x / 2 ^ suc n
 
+-- a word by its ranges: the number in bits first..last
+abbrev pub Word : Type 0
+Word = ℕ → ℕ → ℕ
+
 -- bits first..last of the word x
-abbrev pub bits : ℕ → ℕ → ℕ → ℕ
+abbrev pub bits : ℕ → Word
 bits x first last = from first x % 2 ^ (last - first + 1)
 
--- bits first..last of the register i
-abbrev pub inCells : List ℕ → ℕ → ℕ → ℕ → ℕ
+-- and the words of all registers, by id
+abbrev pub Registers : Type 0
+Registers = ℕ → Word
+
+-- those of the cells
+abbrev pub inCells : List ℕ → Registers
 inCells cells i = bits (getD cells i 0)
 
 -- a number of n bits read as signed, in two's complement

@@ -4,7 +4,9 @@ ghost use Prim.Native.Nat.{_<_};
 ghost use lib.ListN.{length};
 ghost use Rattle.numbers.specs.Pick.{pick};
 ghost use Rattle.decode.specs.Ranges.{bits, inCells};
-ghost use Rattle.decode.specs.Records.{sourceIn, operandIn, combinerIn, scaleIn, stageIn, updateIn, operationIn, functionIn, formatIn, framebufferIn, settingsIn};
+ghost use Rattle.decode.specs.Stages.{sourceIn, operandIn, combinerIn, scaleIn, stageIn, updateIn};
+ghost use Rattle.decode.specs.Framebuffer.{operationIn, functionIn, formatIn, framebufferIn};
+ghost use Rattle.decode.specs.Settings.{settingsIn};
 ghost use Rattle.decode.specs.Codes.{sourceLacks, operandLacks, combinerLacks, scaleLacks, updateLacks, operationLacks, functionLacks, formatLacks, noDepthFormat, stageChecks, frameChecks, checks, firstOf, lowest};
 
 fn source_lacks(x: u32) -> bool

@@ -1,8 +1,8 @@
-// The framebuffer: 100-107, 112-117 of 003. The contracts cite specs/Records.antt.
+// The framebuffer: 100-107, 112-117 of 003. The contracts cite specs/Framebuffer.antt.
 ghost use mathlib.Core.Path.{_≡_};
 ghost use lib.ListN.{length};
 ghost use Rattle.decode.specs.Ranges.{inCells};
-ghost use Rattle.decode.specs.Records.{blendingIn, testsIn, buffersIn, framebufferIn};
+ghost use Rattle.decode.specs.Framebuffer.{blendingIn, testsIn, buffersIn, framebufferIn};
 use crate::records::AlphaTest;
 use crate::records::BlendFunction;
 use crate::records::Blending;

@@ -3,7 +3,7 @@ ghost use mathlib.Core.Path.{_≡_};
 ghost use lib.ListN.{length};
 ghost use Rattle.registers.specs.State.{st};
 ghost use Rattle.decode.specs.Ranges.{bits, inCells};
-ghost use Rattle.decode.specs.Records.{lightPortIn, settingsIn};
+ghost use Rattle.decode.specs.Settings.{lightPortIn, settingsIn};
 ghost use Rattle.decode.specs.Decoded.{decodedOf};
 use crate::records::LightPort;
 use crate::records::Settings;

@@ -1,9 +1,9 @@
-// The rasteriser: 40-44, 47-4B, 4D, 4E, 65-68, 6D of 001. The contracts cite specs/Records.antt.
+// The rasteriser: 40-44, 47-4B, 4D, 4E, 65-68, 6D of 001. The contracts cite specs/Rasteriser.antt.
 ghost use mathlib.Core.Path.{_≡_};
 ghost use Prim.Native.Nat.{_<_};
 ghost use lib.ListN.{length};
 ghost use Rattle.decode.specs.Ranges.{bits, inCells, signed};
-ghost use Rattle.decode.specs.Records.{offsetIn, viewportIn, clipIn, depthmapIn, scissorIn, rasteriserIn};
+ghost use Rattle.decode.specs.Rasteriser.{offsetIn, viewportIn, clipIn, depthmapIn, scissorIn, rasteriserIn};
 use crate::records::Clip;
 use crate::records::Depthmap;
 use crate::records::Offset;

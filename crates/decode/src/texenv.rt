@@ -1,9 +1,9 @@
-// The six stages, and the buffer and fog: C0-DC, E0, E1, E6, F0-FD of 002. The contracts cite specs/Records.antt.
+// The six stages, and the buffer and fog: C0-DC, E0, E1, E6, F0-FD of 002. The contracts cite specs/Stages.antt.
 ghost use mathlib.Core.Path.{_≡_};
 ghost use Prim.Native.Nat.{_<_};
 ghost use lib.ListN.{length};
 ghost use Rattle.decode.specs.Ranges.{inCells};
-ghost use Rattle.decode.specs.Records.{stageIn, stagesIn, bufferFogIn};
+ghost use Rattle.decode.specs.Stages.{stageIn, stagesIn, bufferFogIn};
 use crate::records::BufferFog;
 use crate::records::Colour;
 use crate::records::Combiner;

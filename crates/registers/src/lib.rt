@@ -41,6 +41,7 @@ fn risen128(x: u32) -> u32
     if x % 128 == 127 { x - 127 } else { x + 1 }
 }
 
+// Whole words: a store of the low byte alone would hold up the next look at the cell.
 fn risen256(x: u32) -> u32
     ensures { λ r. ⌜ r ≡ rise 256 x ⌝ }
 {

@@ -1,35 +1,37 @@
+-- Each way out is one case of `decodedOf`. Assumes nothing.
+use Rattle.decode.proofs.Cases.{length-refused, code-refused, all-named}
+use Rattle.registers.proofs.Sizes.{lengths}
+use Rattle.registers.specs.State.{st}
+use borrow.Author.Tests.{not-true, not-false}
+use mathlib.Core.Path.{_≡_, sym, _∙_}
 use borrow.Author.Needs.{needs}
 use Rattle.decode.proofs.decode.Statement.{statement}
 use Rattle.decode.proofs.decode.Tie as tie
-use Rattle.decode.proofs.decode.Reads as reads
-use Rattle.decode.proofs.decode.Lts as lts
-use Rattle.decode.proofs.codes.nameless_id.Reads as nameless-id-reads
-use Rattle.decode.proofs.read_settings.Reads as read-settings-reads
-use Rattle.registers.proofs.is_sized.Reads as is-sized-reads
 
--- src/lib.rt:50:9
 is-sized-requires : tie.Need-is-sized-requires
 is-sized-requires c κs = search needs
 
--- src/lib.rt:51:9
 returns : tie.Need-returns
-returns c = ?
+returns c = sym (length-refused _ (sym (c .before .is-sized .ensures) ∙ not-true _ (c .if1 .taken)))
 
--- src/lib.rt:56:9
 nameless-id-requires : tie.Need-nameless-id-requires
-nameless-id-requires c κs = ?
+nameless-id-requires c κs =
+    let a = c .before .before .before .before .before .args in
+    lengths (st (a .cells .now) (a .fog .now) (a .light .now)) (sym (c .before .is-sized .ensures) ∙ not-false _ (c .if1 .left)) .0
 
--- src/lib.rt:58:9
 returns-2 : tie.Need-returns-2
-returns-2 c = ?
+returns-2 c = sym (code-refused _ _ (sym (c .before .before .before .is-sized .ensures) ∙ not-false _ (c .before .before .if1 .left)) (c .before .nameless-id .ensures) (c .if2 .taken))
 
--- src/lib.rt:63:19
 read-settings-requires : tie.Need-read-settings-requires
-read-settings-requires c κs = ?
+read-settings-requires c κs =
+    let a = c .before .before .before .before .before .before .before .args in
+    lengths (st (a .cells .now) (a .fog .now) (a .light .now)) (sym (c .before .before .before .is-sized .ensures) ∙ not-false _ (c .before .before .if1 .left)) .0
 
--- src/lib.rt:47:1
 returns-3 : tie.Need-returns-3
-returns-3 c = ?
+returns-3 c =
+    sym
+    (all-named _ _ (sym (c .before .before .before .before .is-sized .ensures) ∙ not-false _ (c .before .before .before .if1 .left))
+    (sym (c .before .before .nameless-id .ensures) ∙ c .before .if2 .left) (c .read-settings .ensures))
 
 pub decode-spec : {M : Type 1} → statement M
 decode-spec =

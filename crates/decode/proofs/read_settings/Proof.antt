@@ -1,5 +1,5 @@
 -- Group by group, as the calls ensure. Assumes nothing.
-use Rattle.decode.specs.Records.{settingsIn}
+use Rattle.decode.specs.Settings.{settingsIn}
 use borrow.Author.Needs.{needs}
 use Rattle.decode.proofs.read_settings.Statement.{statement}
 use Rattle.decode.proofs.read_settings.Tie as tie
