@@ -38,7 +38,7 @@ fn entered(old: u32, v: u32) -> u32
 fn risen128(x: u32) -> u32
     ensures { λ r. ⌜ r ≡ rise 128 x ⌝ }
 {
-    if x % 128 == 127 { x - 127 } else { x + 1 }
+    x / 128 * 128 + (x % 128 + 1) % 128
 }
 
 // Whole words: a store of the low byte alone would hold up the next look at the cell.
