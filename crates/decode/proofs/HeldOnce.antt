@@ -1,12 +1,11 @@
 -- Every held bit stands in exactly one field of the table, and no other bit in any. Assumes nothing.
 use mathlib.Core.Path.{_≡_}
-use mathlib.Core.Bool.{Bool, _&&_}
-use mathlib.Core.List.{List, [], _∷_}
-use Prim.Native.Nat.{ℕ, suc, _<_}
+use mathlib.Core.Bool.{Bool}
+use mathlib.Core.List.{List}
+use Prim.Native.Nat.{ℕ, _<_}
 use native.Mathlib.Omega.{arith}
 use lib.Dec.{T, eqb, eqb→eq}
 use lib.ListN.{replicate, length-replicate}
-use Rattle.numbers.specs.Pick.{pick, within}
 use Rattle.numbers.specs.Bits.{bit}
 use Rattle.numbers.proofs.Table.{every, at}
 use Rattle.registers.specs.Held.{held, bitsIn, bitsOf}

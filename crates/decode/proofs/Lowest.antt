@@ -1,8 +1,8 @@
 -- The id of a refusal 13 holds a code without a name, and no lower id does; a state that is decoded has none. Assumes nothing.
 use mathlib.Core.Path.{_≡_, refl, ap, _∙_}
-use mathlib.Core.Bool.{Bool, true, false, _&&_, _||_, false≢true}
+use mathlib.Core.Bool.{Bool, true, false, _&&_, false≢true}
 use mathlib.Core.List.{List, [], _∷_}
-use Prim.Native.Nat.{ℕ, zero, suc, _<_, _≤_}
+use Prim.Native.Nat.{ℕ, _<_, _≤_}
 use native.Mathlib.Omega.{arith}
 use lib.Dec.{T, eqb, ltb, ltb→lt}
 use borrow.Author.Tests.{eq-eqb, ne-eqb, eqb-true, eqb-false}
@@ -12,8 +12,7 @@ use Rattle.registers.specs.State.{State, sized}
 use Rattle.decode.specs.Codes.{Check, check, stageChecks, frameChecks, checks, firstOf, lowest, lacksAt}
 use Rattle.decode.specs.Decoded.{numberOf, valuesOf, settingsOf, nameless, namelessId, refusal, decodedOf}
 use Rattle.decode.specs.declared.records.Settings.{Settings}
-use Rattle.decode.specs.declared.Decoded.{Decoded}
-use Rattle.decode.specs.declared.Decoded.the-variants.{Held, Refused}
+use Rattle.decode.specs.declared.Decoded.the-variants.{Held}
 
 -- ids rise from above n
 rising : ℕ → List Check → Bool
@@ -59,10 +58,10 @@ least-more i true cs h t r =
 least-more i false cs h t r =
     record {
       holds =
-        λ z.
-        let e = r .holds z in
-        let l : i < lowest cs = above cs i t (lowest cs) e in
-        rw (ne-eqb i (lowest cs) (λ q. omega arith)) e;
+          λ z.
+          let e = r .holds z in
+          let l : i < lowest cs = above cs i t (lowest cs) e in
+          rw (ne-eqb i (lowest cs) (λ q. omega arith)) e;
       below = λ j e. r .below j (after (eqb i j) (lacksAt cs j) e);
     }
 

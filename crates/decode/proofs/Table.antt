@@ -1,12 +1,12 @@
 -- The decoded state and the field table: the fields in order are the table's, and nothing else is read. Assumes nothing.
 use mathlib.Core.Path.{_≡_, refl, ap, sym, _∙_}
-use mathlib.Core.Bool.{Bool, true, false, _&&_}
-use mathlib.Core.List.{List, [], _∷_, _++_, map}
+use mathlib.Core.Bool.{_&&_}
+use mathlib.Core.List.{List, [], _∷_, map}
 use Prim.Native.Nat.{ℕ}
-use Rattle.decode.specs.Ranges.{Registers}
 use lib.Dec.{eqb}
 use lib.ListN.{length}
 use Rattle.numbers.specs.Pick.{pick}
+use Rattle.decode.specs.Ranges.{Registers}
 use Rattle.decode.specs.Settings.{settingsIn}
 use Rattle.decode.specs.Fields.{Field, fieldTable, rawIn, wordIn}
 use Rattle.decode.specs.Flat.{flat}

@@ -19,7 +19,7 @@ Word = ℕ → ℕ → ℕ
 abbrev pub bits : ℕ → Word
 bits x first last = from first x % 2 ^ (last - first + 1)
 
--- and the words of all registers, by id
+-- the words of all registers, by id
 abbrev pub Registers : Type 0
 Registers = ℕ → Word
 

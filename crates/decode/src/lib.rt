@@ -1,4 +1,4 @@
-// The decoded state.
+// The decoded state of the 66 held registers: records of 204 fields, or a refusal. The contract of `decode` cites specs/Decoded.antt.
 ghost use mathlib.Core.Path.{_≡_};
 ghost use lib.ListN.{length};
 ghost use Rattle.registers.specs.State.{st};
@@ -38,12 +38,13 @@ fn read_settings(cells: &[u32]) -> Settings
     }
 }
 
+// Every field, or the refusal.
 pub enum Decoded {
     Held(Settings),
     Refused(Refusal),
 }
 
-// The decoded state of the three buffers; or refused with 6 at 0, or with 13 at the lowest id that holds a code without a name.
+// The decoded state of the three buffers; or refused with 6 at place 0, then with 13 at the lowest id that holds a code without a name.
 pub fn decode(cells: &[u32], fog: &[u32], light: &[u32]) -> Decoded
     ensures { λ r. ⌜ r ≡ decodedOf (st (now (cells .entry)) (now (fog .entry)) (now (light .entry))) ⌝ }
 {

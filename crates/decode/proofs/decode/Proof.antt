@@ -3,7 +3,7 @@ use Rattle.decode.proofs.Cases.{length-refused, code-refused, all-named
 use Rattle.registers.proofs.Sizes.{lengths}
 use Rattle.registers.specs.State.{st}
 use borrow.Author.Tests.{not-true, not-false}
-use mathlib.Core.Path.{_≡_, sym, _∙_}
+use mathlib.Core.Path.{sym, _∙_}
 use borrow.Author.Needs.{needs}
 use Rattle.decode.proofs.decode.Statement.{statement}
 use Rattle.decode.proofs.decode.Tie as tie

@@ -1,0 +1,2 @@
+pub mod Unheld
+pub mod Reading

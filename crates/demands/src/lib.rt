@@ -1,0 +1,1 @@
+// The demands on the library as theorems: proofs/. No function.
