@@ -1,0 +1,114 @@
+-- The refusals of the writes given, by the tests that code makes, and what is known of writes that are not refused. Assumes nothing.
+use mathlib.Core.Path.{_≡_, refl, sym, _∙_}
+use mathlib.Core.Bool.{Bool, true, false, _&&_}
+use mathlib.Core.List.{List, [], _∷_}
+use Prim.Native.Nat.{ℕ, zero, suc, _+_, _≤_, _<_}
+use native.Mathlib.Omega.{arith}
+use lib.Dec.{ltb, leb, eqb}
+use lib.ListN.{length, getD, drop, drop-of-length-le}
+use borrow.Author.Tests.{eqb-true, leb-true, le-leb, lt-leb, ltb-false, le-ltb, eq-eqb}
+use Rattle.numbers.specs.Pick.{pick}
+use Rattle.numbers.specs.Answer.{Answer, answered, refused}
+use Rattle.numbers.proofs.Tests.{and-true}
+use Rattle.words.specs.Writes.{Write, faultOf, allowed}
+use Rattle.words.proofs.Laws.{allowed-fault}
+use Rattle.reader.specs.Verdict.{unlessFault}
+use Rattle.runs.specs.Packed.{writes, Packable}
+use Rattle.runs.proofs.Writes.{writes-length, writes-at}
+use Rattle.packer.specs.Given.{wrong, firstWrong, checkAnswer, Given}
+
+-- three buffers of one length
+abbrev pub level : List ℕ → List ℕ → List ℕ → Bool
+level is ms vs = eqb (length is) (length ms) && eqb (length is) (length vs)
+
+module _ (is ms vs : List ℕ) where
+  pub level-lengths : level is ms vs ≡ true → (length is ≡ length ms) × (length is ≡ length vs)
+  level-lengths t =
+      let b = and-true (eqb (length is) (length ms)) (eqb (length is) (length vs)) t in
+      (eqb-true _ _ (b .0), eqb-true _ _ (b .1))
+
+  -- THE TESTS, in their order
+  pub check-lengths : level is ms vs ≡ false → checkAnswer is ms vs ≡ refused 7 0
+  unfolding checkAnswer
+  check-lengths t = rw t
+
+  pub check-many : level is ms vs ≡ true → 4096 < length is → checkAnswer is ms vs ≡ refused 8 0
+  unfolding checkAnswer
+  check-many t h = rw (t, lt-leb (length is) 4096 h)
+
+  pub check-writes : level is ms vs ≡ true → length is ≤ 4096 → checkAnswer is ms vs ≡ firstWrong 0 (writes is ms vs)
+  unfolding checkAnswer
+  check-writes t h = rw (t, le-leb (length is) 4096 h)
+
+-- WRITE BY WRITE
+
+fault-refuses : (f p : ℕ) (rest : Answer) → (f ≡ 0 → ⊥) → unlessFault f p rest ≡ refused f p
+fault-refuses zero p rest h = absurd (h refl)
+fault-refuses (suc f) p rest h = refl
+
+module _ (is ms vs : List ℕ) (i : ℕ) (e : level is ms vs ≡ true) where
+  one-more : i < length is
+      → firstWrong i (drop i (writes is ms vs))
+      ≡ unlessFault (wrong (getD is i 0) (getD ms i 0)) i (firstWrong (i + 1) (drop (i + 1) (writes is ms vs)))
+  unfolding firstWrong
+  one-more h = let l = level-lengths is ms vs e in rw (writes-at is ms vs i (l .0) (l .1) h)
+
+  pub wrong-none : i < length is → (f : ℕ) → f ≡ wrong (getD is i 0) (getD ms i 0) → f ≡ 0
+      → firstWrong i (drop i (writes is ms vs)) ≡ firstWrong (i + 1) (drop (i + 1) (writes is ms vs))
+  wrong-none h f p q = let z = sym p ∙ q in one-more h ∙ rw z
+
+  pub wrong-here : i < length is → (f : ℕ) → f ≡ wrong (getD is i 0) (getD ms i 0) → (f ≡ 0 → ⊥)
+      → firstWrong i (drop i (writes is ms vs)) ≡ refused f i
+  wrong-here h f p q = one-more h ∙ rw (← p) (fault-refuses f i _ q)
+
+  pub wrong-end : length is ≤ i → firstWrong i (drop i (writes is ms vs)) ≡ answered 0
+  unfolding firstWrong
+  wrong-end h =
+      let l = level-lengths is ms vs e in
+      let n = writes-length is ms vs (l .0) (l .1) in
+      rw (drop-of-length-le (writes is ms vs) {i = i} (omega arith))
+
+-- WRITES THAT ARE NOT REFUSED
+
+unless-answered : (f p n : ℕ) (rest : Answer) → unlessFault f p rest ≡ answered n → (f ≡ 0) × (rest ≡ answered n)
+unless-answered zero p n rest e = (refl, e)
+unless-answered (suc f) p n rest e = absurd (let z : _≡_ {A = ℕ} 0 1 = cc in omega arith)
+
+not-wrong : (i m : ℕ) (b : Bool) → ltb 15 m ≡ b → pick b 9 (faultOf i m) ≡ 0 → (m ≤ 15) × (allowed i m ≡ true)
+not-wrong i m true t e = absurd (omega arith)
+not-wrong i m false t e = (ltb-false 15 m t, allowed-fault i m ∙ eq-eqb (faultOf i m) 0 e)
+
+wrong-packable : (i n : ℕ) (ws : List Write) → firstWrong i ws ≡ answered n → Packable ws
+unfolding firstWrong
+wrong-packable i n [] e = tt
+wrong-packable i n (w ∷ ws) e =
+    let u = unless-answered (wrong (w .id) (w .mask)) i n (firstWrong (i + 1) ws) e in
+    let a = not-wrong (w .id) (w .mask) (ltb 15 (w .mask)) refl (u .0) in
+    (a .0, a .1, wrong-packable (i + 1) n ws (u .1))
+
+packable-wrong : (i : ℕ) (ws : List Write) → Packable ws → firstWrong i ws ≡ answered 0
+unfolding firstWrong
+packable-wrong i [] p = refl
+packable-wrong i (w ∷ ws) p =
+    let f : faultOf (w .id) (w .mask) ≡ 0 = eqb-true _ _ (sym (allowed-fault (w .id) (w .mask)) ∙ p .1) in
+    rw (le-ltb 15 (w .mask) (p .0), f) (packable-wrong (i + 1) ws (p .2))
+
+module _ (is ms vs : List ℕ) where
+  by-tests : (n : ℕ) (a b : Bool) → level is ms vs ≡ a → leb (length is) 4096 ≡ b
+      → pick a (pick b (firstWrong 0 (writes is ms vs)) (refused 8 0)) (refused 7 0) ≡ answered n → Given is ms vs
+  by-tests n true true t u e =
+      let l = level-lengths is ms vs t in
+      record { masks = l .0; values = l .1; few = leb-true _ _ u; packable = wrong-packable 0 n (writes is ms vs) e }
+  by-tests n true false t u e = absurd (let z : _≡_ {A = ℕ} 0 1 = cc in omega arith)
+  by-tests n false b t u e = absurd (let z : _≡_ {A = ℕ} 0 1 = cc in omega arith)
+
+  -- no refusal says that the writes can be packed
+  pub check-given : (n : ℕ) → checkAnswer is ms vs ≡ answered n → Given is ms vs
+  unfolding checkAnswer
+  check-given n e = by-tests n (level is ms vs) (leb (length is) 4096) refl refl e
+
+  -- and writes that can be packed are not refused
+  pub given-check : Given is ms vs → checkAnswer is ms vs ≡ answered 0
+  given-check G =
+      let t : level is ms vs ≡ true = rw (eq-eqb _ _ (G .masks), eq-eqb _ _ (G .values)) in
+      check-writes is ms vs t (G .few) ∙ packable-wrong 0 (writes is ms vs) (G .packable)

@@ -1,0 +1,94 @@
+use mathlib.Core.Path.{_≡_, refl, sym, _∙_}
+use Prim.Native.Nat.{_-_, _≤_}
+use native.Mathlib.Omega.{arith}
+use lib.ListN.{length, drop}
+use borrow.Author.Tests.{not-true, not-false}
+use borrow.Author.Needs.{needs}
+use Rattle.runs.specs.Packed.{writes}
+use Rattle.packer.specs.Given.{firstWrong}
+use Rattle.packer.proofs.Given.{check-lengths, check-many, check-writes, wrong-none, wrong-here, wrong-end, level-lengths}
+use Rattle.packer.proofs.check.Statement.{statement}
+use Rattle.packer.proofs.check.Tie as tie
+
+abbrev Inv-loop : tie.InvT-loop
+Inv-loop ids masks values n i₀ i = (i ≤ length ids) × (firstWrong 0 (writes ids masks values) ≡ firstWrong i (drop i (writes ids masks values)))
+
+abbrev μ-loop : tie.MeasureT-loop
+μ-loop ids masks values n i₀ i = n - i
+
+returns : tie.Need-returns Inv-loop μ-loop
+returns c =
+    sym (check-lengths _ _ _ (not-true _ (c .if1 .taken)))
+
+returns-2 : tie.Need-returns-2 Inv-loop μ-loop
+returns-2 c =
+    sym (check-many _ _ _ (not-false _ (c .before .if1 .left)) (c .if2 .taken))
+
+loop-holds : tie.Need-loop-holds Inv-loop μ-loop
+loop-holds c =
+    (omega arith, refl)
+
+mul-wrong-with : tie.Need-mul-wrong-with Inv-loop μ-loop
+mul-wrong-with c = search needs
+
+shared-slice-read-wrong-with : tie.Need-shared-slice-read-wrong-with Inv-loop μ-loop
+shared-slice-read-wrong-with c = search needs
+
+mul-wrong-with-2 : tie.Need-mul-wrong-with-2 Inv-loop μ-loop
+mul-wrong-with-2 c = search needs
+
+shared-slice-read-wrong-with-2 : tie.Need-shared-slice-read-wrong-with-2 Inv-loop μ-loop
+shared-slice-read-wrong-with-2 c =
+    let a = c .before .before .before .before .before .before .before .before .before .args in
+    let l = level-lengths (a .ids .now) (a .masks .now) (a .values .now) (not-false _ (c .before .before .before .before .before .if1 .left)) in
+    omega arith
+
+wrong-with-requires : tie.Need-wrong-with-requires Inv-loop μ-loop
+wrong-with-requires c κs = search needs
+
+returns-3 : tie.Need-returns-3 Inv-loop μ-loop
+returns-3 c =
+    let a = c .before .before .before .before .before .before .before .before .before .before .before .args in
+    let o = c .before .before .before .before .before .loop in
+    let t = not-false _ (c .before .before .before .before .before .before .before .if1 .left) in
+    sym (check-writes _ _ _ t (c .before .before .before .before .before .before .if2 .left) ∙ o .inv .1 ∙ wrong-here (a .ids .now) (a .masks .now) (a .values .now) (o .i) t (c .before .before .before .before .loop-test .taken) (c .before .wrong-with .result) (c .before .wrong-with .ensures) (c .if3 .taken))
+
+add-i : tie.Need-add-i Inv-loop μ-loop
+add-i c = search needs
+
+loop-less : tie.Need-loop-less Inv-loop μ-loop
+loop-less c = search needs
+
+loop-again : tie.Need-loop-again Inv-loop μ-loop
+loop-again c =
+    let a = c .before .before .before .before .before .before .before .before .before .before .before .args in
+    let o = c .before .before .before .before .before .loop in
+    let t = not-false _ (c .before .before .before .before .before .before .before .if1 .left) in
+    (omega arith, o .inv .1 ∙ wrong-none (a .ids .now) (a .masks .now) (a .values .now) (o .i) t (c .before .before .before .before .loop-test .taken) (c .before .wrong-with .result) (c .before .wrong-with .ensures) (c .if3 .left))
+
+returns-4 : tie.Need-returns-4 Inv-loop μ-loop
+returns-4 c =
+    let a = c .before .before .before .before .before .before .before .args in
+    let o = c .before .loop in
+    let t = not-false _ (c .before .before .before .if1 .left) in
+    sym (check-writes _ _ _ t (c .before .before .if2 .left) ∙ o .inv .1 ∙ wrong-end (a .ids .now) (a .masks .now) (a .values .now) (o .i) t (c .loop-test .left))
+
+pub check-spec : {M : Type 1} → statement M
+check-spec =
+    tie.close
+    (tie.spec
+    Inv-loop
+    μ-loop
+    returns
+    returns-2
+    loop-holds
+    mul-wrong-with
+    shared-slice-read-wrong-with
+    mul-wrong-with-2
+    shared-slice-read-wrong-with-2
+    wrong-with-requires
+    returns-3
+    add-i
+    loop-less
+    loop-again
+    returns-4)

@@ -1,0 +1,4 @@
+pub mod Given
+pub mod Laying
+pub mod Plan
+pub mod Packing

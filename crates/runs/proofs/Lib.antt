@@ -1,0 +1,7 @@
+pub mod Chain
+pub mod Lists
+pub mod Command
+pub mod Packed
+pub mod RoundTrip
+pub mod Shortest
+pub mod Writes

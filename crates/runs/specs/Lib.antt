@@ -1,0 +1,3 @@
+pub mod Span
+pub mod Packed
+pub mod Shortest

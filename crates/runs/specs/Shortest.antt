@@ -1,0 +1,43 @@
+-- What is asked of the packed list, as a statement about the lists that the reader accepts.
+use mathlib.Core.Path.{_≡_}
+use mathlib.Core.List.{List, [], _∷_, map}
+use Prim.Native.Nat.{ℕ, _+_, _*_, _/_, _%_, _≤_}
+use lib.ListN.{length, getD}
+use Rattle.numbers.specs.Answer.{answered}
+use Rattle.words.specs.Header.{countOf, stepOf}
+use Rattle.words.specs.Writes.{Write}
+use Rattle.words.specs.Commands.{headerAt, commands, expansion}
+use Rattle.reader.specs.Verdict.{verdict}
+use Rattle.cuts.specs.Cuts.{Most}
+
+-- how many writes the commands at these places carry
+abbrev pub carried : List ℕ → List ℕ → List ℕ
+carried l ps = map (λ (p : ℕ). countOf (headerAt l p) + 1) ps
+
+-- THE SIZES OF A LIST'S COMMANDS, as the reader finds them
+abbrev pub sizesOf : List ℕ → List ℕ
+sizesOf l = carried l (commands l 0)
+
+-- what the packer's own commands keep besides: a lone write has bit 31 clear, unused bits and a padding word are 0
+pub record Tidy (l : List ℕ) (p : ℕ) : Type 0 where
+  pub lone : countOf (headerAt l p) ≡ 0 → stepOf (headerAt l p) ≡ 0
+  pub unused : headerAt l p / 0x10000000 % 8 ≡ 0
+  pub padding : countOf (headerAt l p) % 2 ≡ 1 → getD l (p + 2 + countOf (headerAt l p)) 0 ≡ 0
+
+abbrev pub AllTidy : List ℕ → List ℕ → Type 0
+AllTidy l [] = Unit {0}
+AllTidy l (p ∷ ps) = Tidy l p × AllTidy l ps
+
+-- a list is accepted, and says a run
+pub record Says (ws : List Write) (l : List ℕ) : Type 0 where
+  pub accepted : verdict l ≡ answered (length ws)
+  pub writes : expansion l ≡ ws
+
+-- THE SHORTEST LIST of a run: it says the run; no accepted list that says it has fewer words; among those of its length its first command
+-- carries the most writes, then its second, and so on; it is never longer than two words a write
+pub record Shortest (ws : List Write) (l : List ℕ) : Type 0 where
+  pub says : Says ws l
+  pub least : (other : List ℕ) → Says ws other → length l ≤ length other
+  pub most : (other : List ℕ) → Says ws other → length other ≤ length l → Most (sizesOf l) (sizesOf other)
+  pub tidy : AllTidy l (commands l 0)
+  pub short : length l ≤ 2 * length ws
