@@ -1,2 +1,4 @@
 pub mod Unheld
 pub mod Reading
+pub mod Packing
+pub mod Examples

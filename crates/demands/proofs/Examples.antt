@@ -1,0 +1,18 @@
+-- The P examples of document 01, proved together. Assumes nothing.
+use mathlib.Core.Path.{_≡_, refl}
+use mathlib.Core.List.{List, map}
+use Rattle.words.specs.Writes.{faultOf}
+use Rattle.words.specs.Commands.{run, places, commands, join, expansion}
+use Rattle.registers.specs.Held.{held, bitsIn, bitsOf}
+use Rattle.registers.specs.Ports.{fogCells, fogEntries}
+use Rattle.registers.specs.Applied.{cellsAfter, put, applyAll}
+use Rattle.reader.specs.Verdict.{firstFault, judge, verdict}
+use Rattle.decode.specs.Ranges.{signed}
+use Rattle.cuts.specs.Cuts.{table, sizesFrom}
+use Rattle.runs.specs.Span.{chain, span}
+use Rattle.runs.specs.Packed.{packed}
+use Rattle.demands.specs.Cases.{Case, cases}
+
+pub examples : map (λ (c : Case). c .got) cases ≡ map (λ (c : Case). c .want) cases
+unfolding cases faultOf run places commands join expansion held bitsIn bitsOf fogCells fogEntries cellsAfter put applyAll firstFault judge verdict signed table sizesFrom chain span packed
+examples = refl

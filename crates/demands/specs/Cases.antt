@@ -1,0 +1,65 @@
+-- The examples of document 01 that are marked P, as one table: each case has what the definitions give and what the document says, as numbers.
+use mathlib.Core.List.{List, [], _∷_, _++_, map}
+use Prim.Native.Nat.{ℕ, _+_, _*_}
+use lib.ListN.{getD, set, replicate}
+use Rattle.numbers.specs.Answer.{Answer, answered, refused}
+use Rattle.words.specs.Writes.{Write, writing}
+use Rattle.words.specs.Commands.{expansion}
+use Rattle.registers.specs.State.{State, st}
+use Rattle.registers.specs.Applied.{apply, applyAll}
+use Rattle.reader.specs.Verdict.{verdict}
+use Rattle.decode.specs.Ranges.{signed}
+use Rattle.decode.specs.Fields.{twos}
+use Rattle.runs.specs.Packed.{writes, packed}
+
+pub record Case : Type 0 where
+  pub got : List ℕ
+  pub want : List ℕ
+
+abbrev case : List ℕ → List ℕ → Case
+case g w = record { got = g; want = w }
+
+-- an answer as numbers: 0 and the value, or the refusal's number and place
+abbrev numbers : Answer → List ℕ
+numbers (answered n) = 0 ∷ n ∷ []
+numbers (refused n p) = n ∷ p ∷ []
+
+abbrev ids : List Write → List ℕ
+ids ws = map (λ (w : Write). w .id) ws
+
+-- a state of zeros
+abbrev zeros : State
+zeros = st (replicate 768 0) (replicate 128 0) (replicate 6144 0)
+
+-- the command with first parameter 0 and this header, with n more words
+abbrev list : ℕ → ℕ → List ℕ
+list header n = 0 ∷ header ∷ replicate n 0
+
+-- cell 107 after the value 1F71 is written to it under a mask
+abbrev masked : ℕ → ℕ
+masked m = getD (apply zeros (writing 0x107 m 0x1F71) .cells) 0x107 0
+
+-- E6 at 127, then the fog entries' low words 5 and 6
+abbrev fogged : State
+fogged = applyAll (st (set (replicate 768 0) 0xE6 127) (replicate 128 0) []) (writing 0xE8 15 5 ∷ writing 0xE8 15 6 ∷ [])
+
+unfoldable pub cases : List Case
+cases =
+    -- `AAAAAAAA 802F011C BBBBBBBB CCCCCCCC` is writes to 11C, 11D, 11E; program output `ok 3`
+    case (ids (expansion (0xAAAAAAAA ∷ 0x802F011C ∷ 0xBBBBBBBB ∷ 0xCCCCCCCC ∷ []))) (0x11C ∷ 0x11D ∷ 0x11E ∷ [])
+    ∷ case (numbers (verdict (0xAAAAAAAA ∷ 0x802F011C ∷ 0xBBBBBBBB ∷ 0xCCCCCCCC ∷ []))) (0 ∷ 3 ∷ [])
+    -- value 1F71 to 107, cell 0: mask 1 leaves 71, mask 2 leaves 1F00
+    ∷ case (masked 1 ∷ masked 2 ∷ []) (0x71 ∷ 0x1F00 ∷ [])
+    -- consecutive from 2FE, one extra: accepted. Two extra: refusal 3. From 23B, one extra: 4
+    ∷ case (numbers (verdict (list 0x801F02FE 2))) (0 ∷ 2 ∷ [])
+    ∷ case (numbers (verdict (list 0x802F02FE 2))) (3 ∷ 0 ∷ [])
+    ∷ case (numbers (verdict (list 0x801F023B 2))) (4 ∷ 0 ∷ [])
+    -- E6 at 127, two fog writes: entries 127 and 0, E6 at 1
+    ∷ case (getD (fogged .fog) 127 0 ∷ getD (fogged .fog) 0 0 ∷ getD (fogged .cells) 0xE6 0 ∷ []) (5 ∷ 6 ∷ 1 ∷ [])
+    -- 68 field 3FF is -1, 200 is -512, 1FF is 511, here in two's complement
+    ∷ case (map (λ x. twos (signed 10 x)) (0x3FF ∷ 0x200 ∷ 0x1FF ∷ [])) (0xFFFFFFFF ∷ 0xFFFFFE00 ∷ 511 ∷ [])
+    -- ids 41, 41, 42, 43, mask F, values 1-4: `1 000F0041 2 802F0041 3 4`
+    ∷ case (packed (writes (0x41 ∷ 0x41 ∷ 0x42 ∷ 0x43 ∷ []) (replicate 4 15) (1 ∷ 2 ∷ 3 ∷ 4 ∷ []))) (1 ∷ 0x000F0041 ∷ 2 ∷ 0x802F0041 ∷ 3 ∷ 4 ∷ [])
+    -- ids 41, 41, 42, values 1-3: `1 001F0041 2 0 3 000F0042`
+    ∷ case (packed (writes (0x41 ∷ 0x41 ∷ 0x42 ∷ []) (replicate 3 15) (1 ∷ 2 ∷ 3 ∷ []))) (1 ∷ 0x001F0041 ∷ 2 ∷ 0 ∷ 3 ∷ 0x000F0042 ∷ [])
+    ∷ []
