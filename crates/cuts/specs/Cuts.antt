@@ -38,7 +38,8 @@ Most (k ∷ ks) (j ∷ js) = (j < k) ⊎ ((j ≡ k) × Most ks js)
 abbrev pub after : List ℕ → ℕ → ℕ
 after t k = words k + getD t (k - 1) 0
 
--- the size of the first command: n, the most that it can carry, or one fewer where that takes fewer words
+-- the size of the first command: n, the most that it can carry, or one fewer where that takes fewer words; never none, since a command of no
+-- write would take the words of one (law `size-lone`)
 abbrev pub size : ℕ → List ℕ → ℕ
 size n t = pick (ltb (after t (n - 1)) (after t n)) (n - 1) n
 
@@ -47,7 +48,7 @@ unfoldable pub table : {A : Type 0} → (List A → ℕ) → List A → List ℕ
 table span [] = 0 ∷ []
 table span (a ∷ l) = let t = table span l in let k = size (span (a ∷ l)) t in after t k ∷ t
 
--- THE LEAST WORDS of a run
+-- THE LEAST WORDS of a run: by this choice, and that no cut takes fewer is law `least-low`
 abbrev pub least : {A : Type 0} → (List A → ℕ) → List A → ℕ
 least span l = getD (table span l) 0 0
 

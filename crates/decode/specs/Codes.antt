@@ -114,7 +114,7 @@ frameChecks f =
     ∷ check 0x117 (formatLacks (f .buffers .«colour_format»))
     ∷ []
 
--- every register that holds codes, ids ascending
+-- every register that can hold a code without a name, ids ascending
 unfoldable pub checks : Settings → List Check
 checks s =
     stageChecks 0xC0 (s .stages .stage0)

@@ -18,13 +18,13 @@ use Rattle.decode.specs.declared.records.Settings.{Settings}
 abbrev pub rasteriserWords : Rasteriser → List ℕ
 rasteriserWords r =
     r .culling
-    ∷ r .viewport .«v_scale» ∷ r .viewport .«v_step» ∷ r .viewport .«h_scale» ∷ r .viewport .«h_step»
+    ∷ r .viewport .width ∷ r .viewport .invw ∷ r .viewport .height ∷ r .viewport .invh
     ∷ r .clip .enable ∷ r .clip .data0 ∷ r .clip .data1 ∷ r .clip .data2 ∷ r .clip .data3
     ∷ r .depthmap .scale ∷ r .depthmap .offset
     ∷ r .scissor .mode
-    ∷ r .scissor .pos1 .vertical ∷ r .scissor .pos1 .horizontal
-    ∷ r .scissor .pos2 .vertical ∷ r .scissor .pos2 .horizontal
-    ∷ twos (r .viewport .xy .vertical) ∷ twos (r .viewport .xy .horizontal)
+    ∷ r .scissor .pos .x ∷ r .scissor .pos .y
+    ∷ r .scissor .dim .x ∷ r .scissor .dim .y
+    ∷ twos (r .viewport .xy .x) ∷ twos (r .viewport .xy .y)
     ∷ r .depthmap .enable
     ∷ []
 

@@ -1,4 +1,4 @@
--- The rasteriser's fields, as 001 gives their bits: 40-44, 47-4B, 4D, 4E, 65-68, 6D.
+-- The rasteriser's fields, as 001 gives their bits and 004 their names: 40-44, 47-4B, 4D, 4E, 65-68, 6D.
 use Rattle.decode.specs.Ranges.{Word, Registers, signed}
 use Rattle.decode.specs.declared.records.Offset.{Offset}
 use Rattle.decode.specs.declared.records.Viewport.{Viewport}
@@ -10,15 +10,15 @@ use Rattle.decode.specs.declared.records.Rasteriser.{Rasteriser}
 
 -- only 68 is signed
 abbrev pub offsetIn : Word → Offset
-offsetIn bits = record { vertical = signed 10 (bits 0 9); horizontal = signed 10 (bits 16 25) }
+offsetIn bits = record { x = signed 10 (bits 0 9); y = signed 10 (bits 16 25) }
 
 abbrev pub viewportIn : Registers → Viewport
 viewportIn reg =
     record {
-      «v_scale» = reg 0x41 0 23;
-      «v_step» = reg 0x42 0 31;
-      «h_scale» = reg 0x43 0 23;
-      «h_step» = reg 0x44 0 31;
+      width = reg 0x41 0 23;
+      invw = reg 0x42 0 31;
+      height = reg 0x43 0 23;
+      invh = reg 0x44 0 31;
       xy = offsetIn (reg 0x68);
     }
 
@@ -30,10 +30,10 @@ abbrev pub depthmapIn : Registers → Depthmap
 depthmapIn reg = record { scale = reg 0x4D 0 23; offset = reg 0x4E 0 23; enable = reg 0x6D 0 0 }
 
 abbrev pub positionIn : Word → Position
-positionIn bits = record { vertical = bits 0 9; horizontal = bits 16 25 }
+positionIn bits = record { x = bits 0 9; y = bits 16 25 }
 
 abbrev pub scissorIn : Registers → Scissor
-scissorIn reg = record { mode = reg 0x65 0 1; pos1 = positionIn (reg 0x66); pos2 = positionIn (reg 0x67) }
+scissorIn reg = record { mode = reg 0x65 0 1; pos = positionIn (reg 0x66); dim = positionIn (reg 0x67) }
 
 abbrev pub rasteriserIn : Registers → Rasteriser
 rasteriserIn reg =

@@ -25,8 +25,8 @@ fn read_offset(x: u32) -> Offset
     ensures { λ r. ⌜ r ≡ offsetIn (bits x) ⌝ }
 {
     Offset {
-        vertical: signed_ten(x % 1024),
-        horizontal: signed_ten((x >> 16) % 1024),
+        x: signed_ten(x % 1024),
+        y: signed_ten((x >> 16) % 1024),
     }
 }
 
@@ -41,13 +41,13 @@ fn read_viewport(cells: &[u32]) -> Viewport
     requires { ⌜ length (now cells) ≡ 768 ⌝ }
     ensures { λ r. ⌜ r ≡ viewportIn (inCells (now (cells .entry))) ⌝ }
 {
-    let v_scale = cells[0x41] % 0x1000000;
-    let h_scale = cells[0x43] % 0x1000000;
+    let width = cells[0x41] % 0x1000000;
+    let height = cells[0x43] % 0x1000000;
     Viewport {
-        v_scale,
-        v_step: whole(cells[0x42]),
-        h_scale,
-        h_step: whole(cells[0x44]),
+        width,
+        invw: whole(cells[0x42]),
+        height,
+        invh: whole(cells[0x44]),
         xy: read_offset(cells[0x68]),
     }
 }
@@ -80,17 +80,17 @@ fn read_scissor(cells: &[u32]) -> Scissor
     requires { ⌜ length (now cells) ≡ 768 ⌝ }
     ensures { λ r. ⌜ r ≡ scissorIn (inCells (now (cells .entry))) ⌝ }
 {
-    let pos1 = cells[0x66];
-    let pos2 = cells[0x67];
+    let pos = cells[0x66];
+    let dim = cells[0x67];
     Scissor {
         mode: cells[0x65] % 4,
-        pos1: Position {
-            vertical: pos1 % 1024,
-            horizontal: (pos1 >> 16) % 1024,
+        pos: Position {
+            x: pos % 1024,
+            y: (pos >> 16) % 1024,
         },
-        pos2: Position {
-            vertical: pos2 % 1024,
-            horizontal: (pos2 >> 16) % 1024,
+        dim: Position {
+            x: dim % 1024,
+            y: (dim >> 16) % 1024,
         },
     }
 }

@@ -1,18 +1,18 @@
-// The decoded state: a record for each register that has several fields, and groups of them, named after the documents.
+// The decoded state: a record for each register that has several fields, and groups of them, by 004's names where it has one.
 // A field of eight bits is a u8, any other a u32; the two signed fields of 68 are i32.
 
-// 68: signed, -512..511.
+// 68, VIEWPORT_XY: signed, -512..511.
 pub struct Offset {
-    pub vertical: i32,
-    pub horizontal: i32,
+    pub x: i32,
+    pub y: i32,
 }
 
-// 41-44, 68.
+// 41-44, 68, by 004's names: 001 calls the first two vertical and the next two horizontal.
 pub struct Viewport {
-    pub v_scale: u32,
-    pub v_step: u32,
-    pub h_scale: u32,
-    pub h_step: u32,
+    pub width: u32,
+    pub invw: u32,
+    pub height: u32,
+    pub invh: u32,
     pub xy: Offset,
 }
 
@@ -32,17 +32,17 @@ pub struct Depthmap {
     pub enable: u32,
 }
 
-// 66, 67.
+// 66 and 67, SCISSORTEST_POS and SCISSORTEST_DIM.
 pub struct Position {
-    pub vertical: u32,
-    pub horizontal: u32,
+    pub x: u32,
+    pub y: u32,
 }
 
 // 65-67.
 pub struct Scissor {
     pub mode: u32,
-    pub pos1: Position,
-    pub pos2: Position,
+    pub pos: Position,
+    pub dim: Position,
 }
 
 // 40-44, 47-4B, 4D, 4E, 65-68, 6D.

@@ -20,10 +20,11 @@ told (Refused r) = refused (r .number) (r .place)
 unfoldable pub readAnswer : State → List ℕ → Answer
 readAnswer s l = pick (sized s) (pick (leb (length l) 65536) (verdict l) (refused 1 0)) (refused 6 0)
 
--- an accepted list leaves what its expansion leaves, one masked write after another; a refused one changes nothing
+-- the one state where a call answered, the other where it refused
 abbrev pub ifAnswered : Answer → State → State → State
 ifAnswered (answered n) changed kept = changed
 ifAnswered (refused r p) changed kept = kept
 
+-- an accepted list leaves what its expansion leaves, one masked write after another; a refused one changes nothing
 unfoldable pub readState : State → List ℕ → State
 readState s l = ifAnswered (readAnswer s l) (applyAll s (expansion l)) s

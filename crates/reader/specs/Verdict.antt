@@ -9,7 +9,7 @@ use Rattle.numbers.specs.Answer.{Answer, answered, refused}
 use Rattle.words.specs.Writes.{Write, faultOf, allowed}
 use Rattle.words.specs.Commands.{whole, expand, commands}
 
--- the number of the first write at fault, 0 where none is
+-- the fault of the first write at fault, 3, 4 or 5, and 0 where none is
 unfoldable pub firstFault : List Write → ℕ
 firstFault [] = 0
 firstFault (w ∷ ws) = let rest = firstFault ws in pick (eqb (faultOf (w .id) (w .mask)) 0) rest (faultOf (w .id) (w .mask))
@@ -18,7 +18,7 @@ firstFault (w ∷ ws) = let rest = firstFault ws in pick (eqb (faultOf (w .id) (
 abbrev pub commandFault : List ℕ → ℕ → ℕ
 commandFault l p = pick (whole l p) (firstFault (expand l p)) 2
 
--- a fault refuses with its number at the command's first word
+-- a fault refuses with its number at a place, a command's first word; without one the rest decides
 abbrev pub unlessFault : ℕ → ℕ → Answer → Answer
 unlessFault zero p rest = rest
 unlessFault (suc f) p rest = refused (suc f) p

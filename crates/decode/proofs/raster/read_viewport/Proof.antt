@@ -3,11 +3,11 @@ use borrow.Author.Needs.{needs}
 use Rattle.decode.proofs.raster.read_viewport.Statement.{statement}
 use Rattle.decode.proofs.raster.read_viewport.Tie as tie
 
-shared-slice-read-v-scale : tie.Need-shared-slice-read-v-scale
-shared-slice-read-v-scale c = search needs
+shared-slice-read-width : tie.Need-shared-slice-read-width
+shared-slice-read-width c = search needs
 
-shared-slice-read-h-scale : tie.Need-shared-slice-read-h-scale
-shared-slice-read-h-scale c = search needs
+shared-slice-read-height : tie.Need-shared-slice-read-height
+shared-slice-read-height c = search needs
 
 shared-slice-read-whole : tie.Need-shared-slice-read-whole
 shared-slice-read-whole c = search needs
@@ -34,8 +34,8 @@ pub read-viewport-spec : {M : Type 1} → statement M
 read-viewport-spec =
     tie.close
     (tie.spec
-    shared-slice-read-v-scale
-    shared-slice-read-h-scale
+    shared-slice-read-width
+    shared-slice-read-height
     shared-slice-read-whole
     whole-requires
     shared-slice-read-whole-2
