@@ -4,3 +4,4 @@ pub mod Lays
 pub mod Packs
 pub mod Demand
 pub mod Once
+pub mod RoundTrip

@@ -1,7 +1,9 @@
 pub mod Chain
+pub mod Places
 pub mod Lists
 pub mod Command
 pub mod Packed
 pub mod RoundTrip
 pub mod Shortest
+pub mod Only
 pub mod Writes

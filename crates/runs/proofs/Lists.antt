@@ -2,8 +2,7 @@
 use mathlib.Core.Path.{_≡_, sym, _∙_}
 use mathlib.Core.Bool.{true}
 use mathlib.Core.List.{List, [], _∷_}
-use Prim.Native.Nat.{ℕ, zero, suc, _+_, _-_, _≤_, _<_}
-use native.Mathlib.Decide.{decLt}
+use Prim.Native.Nat.{ℕ, _+_, _≤_, _<_}
 use native.Mathlib.Omega.{arith}
 use lib.ListN.{length}
 use lib.Seq.{drop-at}
@@ -16,6 +15,7 @@ use Rattle.cuts.specs.Cuts.{total, Cut}
 use Rattle.runs.specs.Span.{span}
 use Rattle.runs.specs.Shortest.{carried, sizesOf}
 use Rattle.runs.proofs.Chain.{expand-span}
+use Rattle.runs.proofs.Places.{by-places}
 
 module _ (l : List ℕ) where
   -- what the commands at these places carry, from `at` on
@@ -49,19 +49,8 @@ module _ (l : List ℕ) where
   end : (at : ℕ) → length l ≤ at → From at
   end at h p f = rw (commands-end l at h) (none at p)
 
-  place : (at : ℕ) → (at < length l → From (at + wordsOf (headerAt l at))) → From at
-  place at rest = go (decLt at (length l))
-    where
-      go : Dec (at < length l) → From at
-      go (yes q) = step at q (rest q)
-      go (no q) = end at (omega arith)
-
-  from-place : (n at : ℕ) → length l - at ≤ n → From at
-  from-place zero at h = end at (omega arith)
-  from-place (suc n) at h = place at (λ q. from-place n (at + wordsOf (headerAt l at)) (omega arith))
-
   -- THE COMMANDS OF A WELL-FORMED LIST ARE A CUT of its expansion, and take no more words than it has
   pub list-cut : wellFormed l ≡ true → Cut span (expansion l) (sizesOf l) × (total (sizesOf l) ≤ length l)
   list-cut f =
-      let c = from-place (length l) 0 (omega arith) (omega arith) (sym (formed-of l) ∙ f) in
+      let c = by-places l From end step 0 (omega arith) (sym (formed-of l) ∙ f) in
       (rw (expansion-of l) (c .cut), omega (arith, c .words))

@@ -38,6 +38,10 @@ unfolding allAllowed
 all-allowed [] p = refl
 all-allowed (w ∷ l) p = rw (p .1) (all-allowed l (p .2))
 
+-- any accepted list with that expansion says the run
+pub says-of : (ws : List Write) (l : List ℕ) (n : ℕ) → verdict l ≡ answered n → expansion l ≡ ws → Says ws l
+says-of ws l n v e = record { accepted = v ∙ ap answered (verdict-accepted l n v .2 ∙ ap length e); writes = e }
+
 -- NO ACCEPTED LIST THAT SAYS THE RUN HAS FEWER WORDS
 pub packed-least : (ws : List Write) (l : List ℕ) → Says ws l → length (packed ws) ≤ length l
 packed-least ws l s =

@@ -1,7 +1,7 @@
 -- What is asked of the packed list, as a statement about the lists that the reader accepts.
 use mathlib.Core.Path.{_≡_}
 use mathlib.Core.List.{List, [], _∷_, map}
-use Prim.Native.Nat.{ℕ, _+_, _*_, _/_, _%_, _≤_}
+use Prim.Native.Nat.{ℕ, _+_, _*_, _/_, _%_, _≤_, _<_}
 use lib.ListN.{length, getD}
 use Rattle.numbers.specs.Answer.{answered}
 use Rattle.words.specs.Header.{countOf, stepOf}
@@ -41,3 +41,7 @@ pub record Shortest (ws : List Write) (l : List ℕ) : Type 0 where
   pub most : (other : List ℕ) → Says ws other → length other ≤ length l → Most (sizesOf l) (sizesOf other)
   pub tidy : AllTidy l (commands l 0)
   pub short : length l ≤ 2 * length ws
+
+-- a list of 32-bit words
+abbrev pub Words32 : List ℕ → Type 0
+Words32 l = (j : ℕ) → getD l j 0 < 0x100000000

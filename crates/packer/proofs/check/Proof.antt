@@ -1,12 +1,14 @@
+-- Each way out is one case of `checkAnswer`. The loop: no write before i is refused, so what is left decides. Assumes nothing.
 use mathlib.Core.Path.{_≡_, refl, sym, _∙_}
+use mathlib.Core.Bool.{true}
 use Prim.Native.Nat.{_-_, _≤_}
 use native.Mathlib.Omega.{arith}
 use lib.ListN.{length, drop}
 use borrow.Author.Tests.{not-true, not-false}
 use borrow.Author.Needs.{needs}
 use Rattle.runs.specs.Packed.{writes}
-use Rattle.packer.specs.Given.{firstWrong}
-use Rattle.packer.proofs.Given.{check-lengths, check-many, check-writes, wrong-none, wrong-here, wrong-end, level-lengths}
+use Rattle.packer.specs.Given.{firstWrong, checkAnswer}
+use Rattle.packer.proofs.Given.{level, level-lengths, check-lengths, check-many, check-writes, wrong-none, wrong-here, wrong-end}
 use Rattle.packer.proofs.check.Statement.{statement}
 use Rattle.packer.proofs.check.Tie as tie
 
@@ -28,6 +30,17 @@ loop-holds : tie.Need-loop-holds Inv-loop μ-loop
 loop-holds c =
     (omega arith, refl)
 
+abbrev start : tie.At-loop Inv-loop μ-loop → tie.Start Inv-loop μ-loop
+start c = c .before .before .before .before .before .before
+
+one-length : (c : tie.At-loop Inv-loop μ-loop) → level (start c .args .ids .now) (start c .args .masks .now) (start c .args .values .now) ≡ true
+one-length c = not-false _ (c .before .before .if1 .left)
+
+from-i : (c : tie.At-loop Inv-loop μ-loop)
+    → checkAnswer (start c .args .ids .now) (start c .args .masks .now) (start c .args .values .now)
+    ≡ firstWrong (c .loop .i) (drop (c .loop .i) (writes (start c .args .ids .now) (start c .args .masks .now) (start c .args .values .now)))
+from-i c = check-writes _ _ _ (one-length c) (c .before .if2 .left) ∙ c .loop .inv .1
+
 mul-wrong-with : tie.Need-mul-wrong-with Inv-loop μ-loop
 mul-wrong-with c = search needs
 
@@ -39,8 +52,8 @@ mul-wrong-with-2 c = search needs
 
 shared-slice-read-wrong-with-2 : tie.Need-shared-slice-read-wrong-with-2 Inv-loop μ-loop
 shared-slice-read-wrong-with-2 c =
-    let a = c .before .before .before .before .before .before .before .before .before .args in
-    let l = level-lengths (a .ids .now) (a .masks .now) (a .values .now) (not-false _ (c .before .before .before .before .before .if1 .left)) in
+    let a = start (c .before .before .before) .args in
+    let l = level-lengths (a .ids .now) (a .masks .now) (a .values .now) (one-length (c .before .before .before)) in
     omega arith
 
 wrong-with-requires : tie.Need-wrong-with-requires Inv-loop μ-loop
@@ -48,10 +61,9 @@ wrong-with-requires c κs = search needs
 
 returns-3 : tie.Need-returns-3 Inv-loop μ-loop
 returns-3 c =
-    let a = c .before .before .before .before .before .before .before .before .before .before .before .args in
-    let o = c .before .before .before .before .before .loop in
-    let t = not-false _ (c .before .before .before .before .before .before .before .if1 .left) in
-    sym (check-writes _ _ _ t (c .before .before .before .before .before .before .if2 .left) ∙ o .inv .1 ∙ wrong-here (a .ids .now) (a .masks .now) (a .values .now) (o .i) t (c .before .before .before .before .loop-test .taken) (c .before .wrong-with .result) (c .before .wrong-with .ensures) (c .if3 .taken))
+    let a = start (c .before .before .before .before .before) .args in
+    let w = c .before .wrong-with in
+    sym (from-i (c .before .before .before .before .before) ∙ wrong-here (a .ids .now) (a .masks .now) (a .values .now) _ (one-length (c .before .before .before .before .before)) (c .before .before .before .before .loop-test .taken) (w .result) (w .ensures) (c .if3 .taken))
 
 add-i : tie.Need-add-i Inv-loop μ-loop
 add-i c = search needs
@@ -61,17 +73,14 @@ loop-less c = search needs
 
 loop-again : tie.Need-loop-again Inv-loop μ-loop
 loop-again c =
-    let a = c .before .before .before .before .before .before .before .before .before .before .before .args in
-    let o = c .before .before .before .before .before .loop in
-    let t = not-false _ (c .before .before .before .before .before .before .before .if1 .left) in
-    (omega arith, o .inv .1 ∙ wrong-none (a .ids .now) (a .masks .now) (a .values .now) (o .i) t (c .before .before .before .before .loop-test .taken) (c .before .wrong-with .result) (c .before .wrong-with .ensures) (c .if3 .left))
+    let a = start (c .before .before .before .before .before) .args in
+    let w = c .before .wrong-with in
+    (omega arith, c .before .before .before .before .before .loop .inv .1 ∙ wrong-none (a .ids .now) (a .masks .now) (a .values .now) _ (one-length (c .before .before .before .before .before)) (c .before .before .before .before .loop-test .taken) (w .result) (w .ensures) (c .if3 .left))
 
 returns-4 : tie.Need-returns-4 Inv-loop μ-loop
 returns-4 c =
-    let a = c .before .before .before .before .before .before .before .args in
-    let o = c .before .loop in
-    let t = not-false _ (c .before .before .before .if1 .left) in
-    sym (check-writes _ _ _ t (c .before .before .if2 .left) ∙ o .inv .1 ∙ wrong-end (a .ids .now) (a .masks .now) (a .values .now) (o .i) t (c .loop-test .left))
+    let a = start (c .before) .args in
+    sym (from-i (c .before) ∙ wrong-end (a .ids .now) (a .masks .now) (a .values .now) _ (one-length (c .before)) (c .loop-test .left))
 
 pub check-spec : {M : Type 1} → statement M
 check-spec =

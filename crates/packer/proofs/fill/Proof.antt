@@ -1,3 +1,4 @@
+-- The plan gives the length of the packed list; the test for room decides as `ifRoom` does. Assumes nothing.
 use mathlib.Core.Path.{refl, sym, _∙_}
 use native.Mathlib.Omega.{arith}
 use borrow.Author.Needs.{needs}

@@ -1,3 +1,4 @@
+-- Each way out rewrites the definition with the test that led there. Assumes nothing.
 use borrow.Author.Tests.{lt-ltb, le-ltb}
 use borrow.Author.Needs.{needs}
 use Rattle.packer.proofs.wrong_with.Statement.{statement}

@@ -1,8 +1,11 @@
-use mathlib.Core.Path.{_≡_, refl, _∙_}
-use Prim.Native.Nat.{_+_, _-_, _≤_, _<_}
+-- The loop: the commands of the writes before i stand in the first `at` words, and the packed list of the rest is left. Assumes nothing.
+use mathlib.Core.Path.{_≡_, refl, ap, _∙_}
+use mathlib.Core.List.{List}
+use Prim.Native.Nat.{ℕ, _+_, _-_, _≤_, _<_}
 use native.Mathlib.Omega.{arith}
 use lib.ListN.{length, drop}
 use borrow.Author.Needs.{needs}
+use Rattle.words.specs.Writes.{Write}
 use Rattle.cuts.specs.Cuts.{words, first}
 use Rattle.runs.specs.Span.{span}
 use Rattle.runs.specs.Packed.{writes, OneCommand}
@@ -30,27 +33,33 @@ wide-requires c κs = search needs
 add-k : tie.Need-add-k Inv-loop μ-loop
 add-k c = search needs
 
-below : (c : tie.After-wide Inv-loop μ-loop) → c .before .before .before .loop .i < length (writes (c .before .before .before .before .before .before .before .before .before .args .ids .now) (c .before .before .before .before .before .before .before .before .before .args .masks .now) (c .before .before .before .before .before .before .before .before .before .args .values .now))
-below c =
-    let b = c .before .before .before .before .before .before .before .before .before in
-    omega (arith, c .before .before .loop-test .taken, writes-length (b .args .ids .now) (b .args .masks .now) (b .args .values .now) (b .pre .0 .masks) (b .pre .0 .values))
+abbrev start : tie.After-wide Inv-loop μ-loop → tie.Start Inv-loop μ-loop
+start c = c .before .before .before .before .before .before .before .before .before
 
-size-is : (c : tie.After-wide Inv-loop μ-loop)
-    → c .wide .result + 1 ≡ first span (drop (c .before .before .before .loop .i) (writes (c .before .before .before .before .before .before .before .before .before .args .ids .now) (c .before .before .before .before .before .before .before .before .before .args .masks .now) (c .before .before .before .before .before .before .before .before .before .args .values .now)))
-size-is c = rw (c .wide .ensures .0) (c .before .before .before .before .before .before .before .before .before .pre .2 (c .before .before .before .loop .i) (below c))
+abbrev turn : tie.After-wide Inv-loop μ-loop → tie.At-loop Inv-loop μ-loop
+turn c = c .before .before .before
 
-one : (c : tie.After-wide Inv-loop μ-loop)
-    → OneCommand (drop (c .before .before .before .loop .i) (writes (c .before .before .before .before .before .before .before .before .before .args .ids .now) (c .before .before .before .before .before .before .before .before .before .args .masks .now) (c .before .before .before .before .before .before .before .before .before .args .values .now))) (c .wide .result + 1)
-one c = one-command _ _ _ _ _ _ (below c) (size-is c) (c .before .before .before .loop .inv .0)
+abbrev run : tie.After-wide Inv-loop μ-loop → List Write
+run c = writes (start c .args .ids .now) (start c .args .masks .now) (start c .args .values .now)
 
-room : (c : tie.After-wide Inv-loop μ-loop) → (c .before .before .before .loop .i + (c .wide .result + 1) ≤ length (c .before .before .before .before .before .before .before .before .before .args .ids .now))
-    × (c .before .before .before .loop .at + words (c .wide .result + 1) ≤ length (c .before .before .before .loop .space))
+run-length : (c : tie.After-wide Inv-loop μ-loop) → length (run c) ≡ length (start c .args .ids .now)
+run-length c = let G = start c .pre .0 in writes-length (start c .args .ids .now) (start c .args .masks .now) (start c .args .values .now) (G .masks) (G .values)
+
+below : (c : tie.After-wide Inv-loop μ-loop) → turn c .loop .i < length (run c)
+below c = omega (arith, c .before .before .loop-test .taken, run-length c)
+
+planned : (c : tie.After-wide Inv-loop μ-loop) → c .wide .result + 1 ≡ first span (drop (turn c .loop .i) (run c))
+planned c = ap (λ (x : ℕ). x + 1) (c .wide .ensures .0) ∙ start c .pre .2 (turn c .loop .i) (below c)
+
+one : (c : tie.After-wide Inv-loop μ-loop) → OneCommand (drop (turn c .loop .i) (run c)) (c .wide .result + 1)
+one c = one-command _ _ _ _ _ _ (below c) (planned c) (turn c .loop .inv .0)
+
+room : (c : tie.After-wide Inv-loop μ-loop) → (turn c .loop .i + (c .wide .result + 1) ≤ length (start c .args .ids .now))
+    × (turn c .loop .at + words (c .wide .result + 1) ≤ length (turn c .loop .space))
 room c =
-    let b = c .before .before .before .before .before .before .before .before .before in
-    let o = c .before .before .before .loop in
-    let m = laid-more _ _ _ _ _ _ (below c) (size-is c) (o .inv .0) in
-    let n = writes-length (b .args .ids .now) (b .args .masks .now) (b .args .values .now) (b .pre .0 .masks) (b .pre .0 .values) in
-    (omega (arith, m .within, n), omega (arith, m .fits, o .inv .1, b .pre .3))
+    let o = turn c .loop in
+    let m = laid-more _ _ _ _ _ _ (below c) (planned c) (o .inv .0) in
+    (omega (arith, m .within, run-length c), omega (arith, m .fits, o .inv .1, start c .pre .3))
 
 put-command-requires : tie.Need-put-command-requires Inv-loop μ-loop
 put-command-requires c κs =
@@ -79,7 +88,7 @@ loop-again c =
     let a = b .args in
     let o = c .before .before .before .before .before .before .before .before .loop in
     let p = c .before .before .before .put-command in
-    let m = laid-more _ _ _ _ _ _ (below (c .before .before .before .before .before)) (size-is (c .before .before .before .before .before)) (o .inv .0) in
+    let m = laid-more _ _ _ _ _ _ (below (c .before .before .before .before .before)) (planned (c .before .before .before .before .before)) (o .inv .0) in
     (rw (c .words-of .ensures, p .ensures) m, p .kept .1 .1 .1 .1 .1 .0 ∙ o .inv .1)
 
 same-length : tie.Need-same-length Inv-loop μ-loop

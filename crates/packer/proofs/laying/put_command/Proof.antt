@@ -1,5 +1,7 @@
+-- The first two words stand before the loop, and m + 1 words in it; the padding word is the last. Assumes nothing.
 use mathlib.Core.Path.{_≡_, refl, sym, ap, _∙_}
-use Prim.Native.Nat.{_+_, _-_, _≤_}
+use mathlib.Core.List.{List}
+use Prim.Native.Nat.{ℕ, _+_, _-_, _≤_}
 use native.Mathlib.Omega.{arith}
 use lib.ListN.{length, getD, drop, set, length-set}
 use lib.Seq.{paste}
@@ -70,25 +72,31 @@ slice-write-space-2 c =
     let a = b .args in
     omega (arith, b .pre .1 .low, length-set (a .space .now) (a .at) (getD (a .values .now) (a .i) 0))
 
-begun : (c : tie.After-header-of Inv-loop μ-loop)
-    → set (set (c .before .before .before .before .before .before .before .before .before .args .space .now) (c .before .before .before .before .before .before .before .before .before .args .at) (getD (c .before .before .before .before .before .before .before .before .before .args .values .now) (c .before .before .before .before .before .before .before .before .before .args .i) 0)) (c .before .before .before .before .before .before .before .before .before .args .at + 1) (c .header-of .result)
-    ≡ paste (c .before .before .before .before .before .before .before .before .before .args .space .now) (c .before .before .before .before .before .before .before .before .before .args .at) (command (c .before .before .before .before .before .before .before .before .before .args .k) (drop (c .before .before .before .before .before .before .before .before .before .args .i) (writes (c .before .before .before .before .before .before .before .before .before .args .ids .now) (c .before .before .before .before .before .before .before .before .before .args .masks .now) (c .before .before .before .before .before .before .before .before .before .args .values .now)))) 2
+abbrev start : tie.After-header-of Inv-loop μ-loop → tie.Start Inv-loop μ-loop
+start c = c .before .before .before .before .before .before .before .before .before
+
+abbrev words-put : tie.After-header-of Inv-loop μ-loop → List ℕ
+words-put c =
+    let a = start c .args in command (a .k) (drop (a .i) (writes (a .ids .now) (a .masks .now) (a .values .now)))
+
+abbrev after-two : tie.After-header-of Inv-loop μ-loop → List ℕ
+after-two c = let a = start c .args in set (set (a .space .now) (a .at) (getD (a .values .now) (a .i) 0)) (a .at + 1) (c .header-of .result)
+
+begun : (c : tie.After-header-of Inv-loop μ-loop) → after-two c ≡ paste (start c .args .space .now) (start c .args .at) (words-put c) 2
 begun c =
-    let b = c .before .before .before .before .before .before .before .before .before in
+    let b = start c in
     let a = b .args in
     two-words (a .ids .now) (a .masks .now) (a .values .now) (b .pre .0) (a .i) (a .k) (b .pre .1) (a .space .now) (a .at) (c .header-of .result) (b .pre .3)
     (c .header-of .ensures ∙ ap (header (getD (a .ids .now) (a .i) 0) (getD (a .masks .now) (a .i) 0) (a .k)) (c .before .step-at .ensures .0))
 
-long : (c : tie.After-header-of Inv-loop μ-loop)
-    → length (set (set (c .before .before .before .before .before .before .before .before .before .args .space .now) (c .before .before .before .before .before .before .before .before .before .args .at) (getD (c .before .before .before .before .before .before .before .before .before .args .values .now) (c .before .before .before .before .before .before .before .before .before .args .i) 0)) (c .before .before .before .before .before .before .before .before .before .args .at + 1) (c .header-of .result))
-    ≡ length (c .before .before .before .before .before .before .before .before .before .args .space .now)
-long c = length-set (set (c .before .before .before .before .before .before .before .before .before .args .space .now) _ _) _ _ ∙ length-set (c .before .before .before .before .before .before .before .before .before .args .space .now) _ _
+long : (c : tie.After-header-of Inv-loop μ-loop) → length (after-two c) ≡ length (start c .args .space .now)
+long c = length-set (set (start c .args .space .now) _ _) _ _ ∙ length-set (start c .args .space .now) _ _
 
 loop-holds : tie.Need-loop-holds Inv-loop μ-loop
 loop-holds c =
     let b = c .before .before .before .before .before .before .before .before .before in
     let a = b .args in
-    let C = command (a .k) (drop (a .i) (writes (a .ids .now) (a .masks .now) (a .values .now))) in
+    let C = words-put c in
     let e = begun c in
     (omega arith, b .pre .1 .low, refl, rw e (sym (copy-more (a .space .now) C (a .at) 2 (1 + 1) (omega (arith, b .pre .3, b .pre .1 .low)) (omega (arith, b .pre .1 .long)) (omega arith))))
 
@@ -130,7 +138,7 @@ loop-again c =
     let b = c .before .before .before .before .before .before .before .before .before .before .before .before in
     let a = b .args in
     let o = c .before .before .loop in
-    let C = command (a .k) (drop (a .i) (writes (a .ids .now) (a .masks .now) (a .values .now))) in
+    let C = words-put (c .before .before .before) in
     let l = long (c .before .before .before) in (
       (let z : 1 ≤ o .m + 1 = omega arith in z),
       (let z : o .m + 1 ≤ a .k = omega arith in z),
@@ -161,7 +169,7 @@ returns c =
     let b = c .before .before .before .before .before .before .before .before .before .before .before .before in
     let a = b .args in
     let o = c .before .before .loop in
-    let C = command (a .k) (drop (a .i) (writes (a .ids .now) (a .masks .now) (a .values .now))) in
+    let C = words-put (c .before .before .before) in
     let z = copied (a .space .now) C _ (o .space) (a .at) (o .m) (a .k + 1) (begun (c .before .before .before)) (o .inv .3) (omega arith) (omega (arith, b .pre .1 .low)) (omega arith) (omega (arith, b .pre .1 .long)) in
     next-word (a .space .now) C (a .at) (a .k + 1) (a .at + 1 + a .k) (words (a .k)) 0 (o .space) (omega arith) (omega arith) (omega arith) (omega (arith, b .pre .1 .long)) z
     (word-pad (a .ids .now) (a .masks .now) (a .values .now) (b .pre .0) (a .i) (a .k) (b .pre .1) (omega arith))
@@ -175,7 +183,7 @@ returns-2 c =
     let b = c .before .before .before .before .before .before .before .before .before .before .before .before in
     let a = b .args in
     let o = c .before .before .loop in
-    let C = command (a .k) (drop (a .i) (writes (a .ids .now) (a .masks .now) (a .values .now))) in
+    let C = words-put (c .before .before .before) in
     copied (a .space .now) C _ (o .space) (a .at) (o .m) (words (a .k)) (begun (c .before .before .before)) (o .inv .3) (omega arith) (omega (arith, b .pre .1 .low)) (omega arith) (omega (arith, b .pre .1 .long))
 
 pub put-command-spec : {M : Type 1} → statement M

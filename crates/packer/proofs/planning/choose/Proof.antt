@@ -1,7 +1,10 @@
+-- Each way out is one case of `size`, with its words. Assumes nothing.
+use mathlib.Core.Path.{_≡_}
 use Prim.Native.Nat.{_+_, _-_}
 use native.Mathlib.Omega.{arith}
 use lib.ListN.{drop}
 use borrow.Author.Needs.{needs}
+use Rattle.cuts.specs.Cuts.{after}
 use Rattle.cuts.proofs.Choice.{size-whole, size-fewer, size-lone, after-drop}
 use Rattle.packer.proofs.planning.choose.Statement.{statement}
 use Rattle.packer.proofs.planning.choose.Tie as tie
@@ -28,7 +31,10 @@ returns : tie.Need-returns
 returns c =
     let a = c .before .before .before .before .before .args in
     let t = a .least .now in
-    record { size = size-lone (a .n) (drop (a .i + 1) t) (omega arith); words = omega (arith, after-drop t (a .i) (a .n) (a .i + a .n) (omega arith) (omega arith)) }
+    record {
+      size = size-lone (a .n) (drop (a .i + 1) t) (omega arith);
+      words = omega (arith, after-drop t (a .i) (a .n) (a .i + a .n) (omega arith) (omega arith));
+    }
 
 sub-words-of : tie.Need-sub-words-of
 sub-words-of c = search needs
@@ -54,24 +60,33 @@ wide-requires-2 c κs = search needs
 add-fewer : tie.Need-add-fewer
 add-fewer c = search needs
 
+abbrev start : tie.After-wide2 → tie.Start
+start c = c .before .before .before .before .before .before .before .before
+
+both : (c : tie.After-wide2)
+    → (after (drop (start c .args .i + 1) (start c .args .least .now)) (start c .args .n) ≡ c .before .before .before .before .before .before .words-of .result + c .before .before .before .before .wide .result)
+    × (after (drop (start c .args .i + 1) (start c .args .least .now)) (start c .args .n - 1) ≡ c .before .before .words-of2 .result + c .wide2 .result)
+both c =
+    let a = start c .args in
+    let t = a .least .now in (
+      omega (arith, after-drop t (a .i) (a .n) (a .i + a .n) (omega arith) (omega arith)),
+      omega (arith, after-drop t (a .i) (a .n - 1) (a .i + a .n - 1) (omega arith) (omega arith)),
+    )
+
 sub-t16 : tie.Need-sub-t16
 sub-t16 c = search needs
 
 returns-2 : tie.Need-returns-2
 returns-2 c =
-    let a = c .before .before .before .before .before .before .before .before .before .args in
-    let t = a .least .now in
-    let w = after-drop t (a .i) (a .n) (a .i + a .n) (omega arith) (omega arith) in
-    let f = after-drop t (a .i) (a .n - 1) (a .i + a .n - 1) (omega arith) (omega arith) in
-    record { size = size-fewer (a .n) (drop (a .i + 1) t) (omega arith); words = omega arith }
+    let a = start (c .before) .args in
+    let w = both (c .before) in
+    record { size = size-fewer (a .n) (drop (a .i + 1) (a .least .now)) (omega (arith, c .if2 .taken)); words = omega arith }
 
 returns-3 : tie.Need-returns-3
 returns-3 c =
-    let a = c .before .before .before .before .before .before .before .before .before .args in
-    let t = a .least .now in
-    let w = after-drop t (a .i) (a .n) (a .i + a .n) (omega arith) (omega arith) in
-    let f = after-drop t (a .i) (a .n - 1) (a .i + a .n - 1) (omega arith) (omega arith) in
-    record { size = size-whole (a .n) (drop (a .i + 1) t) (omega arith); words = omega arith }
+    let a = start (c .before) .args in
+    let w = both (c .before) in
+    record { size = size-whole (a .n) (drop (a .i + 1) (a .least .now)) (omega (arith, c .if2 .left)); words = omega arith }
 
 pub choose-spec : {M : Type 1} → statement M
 choose-spec =

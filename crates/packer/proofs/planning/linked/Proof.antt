@@ -1,3 +1,4 @@
+-- Each way out rewrites the choice with the test that led there. Assumes nothing.
 use borrow.Author.Needs.{needs}
 use Rattle.packer.proofs.planning.linked.Statement.{statement}
 use Rattle.packer.proofs.planning.linked.Tie as tie

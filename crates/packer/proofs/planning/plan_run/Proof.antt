@@ -1,9 +1,15 @@
+-- The loop, from the end of the run: the two chains, the least words and the tables are right from write i on, whatever the values;
+-- the id and the mask of write i are held for the one before it. Assumes nothing.
 use mathlib.Core.Path.{_≡_, refl, sym, _∙_}
+use mathlib.Core.Bool.{_&&_}
 use mathlib.Core.List.{List}
 use Prim.Native.Nat.{ℕ, _+_, _-_, _≤_, _<_}
 use native.Mathlib.Omega.{arith}
+use lib.Dec.{eqb}
 use lib.ListN.{length, getD, drop, length-set, length-drop}
 use borrow.Author.Needs.{needs}
+use Rattle.numbers.specs.Pick.{pick}
+use Rattle.words.specs.Writes.{Write}
 use Rattle.cuts.specs.Cuts.{least}
 use Rattle.runs.specs.Span.{chain}
 use Rattle.runs.specs.Packed.{writes}
@@ -67,19 +73,33 @@ linked-requires-2 c κs =
     let ws = writes (a .ids .now) (a .masks .now) (a .ids .now) in
     omega (arith, o .inv .4 (a .ids .now) refl .rises, chain-fits 1 (drop (o .i) ws), length-drop (o .i) ws, writes-length (a .ids .now) (a .masks .now) (a .ids .now) (b .pre .0) refl)
 
-chains : (c : tie.After-linked2 Inv-loop μ-loop) (vs : List ℕ) → length (c .before .before .before .before .before .before .before .before .before .before .args .ids .now) ≡ length vs
-    → (c .before .linked .result ≡ chain 0 (drop (c .before .before .before .before .before .loop .i - 1) (writes (c .before .before .before .before .before .before .before .before .before .before .args .ids .now) (c .before .before .before .before .before .before .before .before .before .before .args .masks .now) vs)))
-    × (c .linked2 .result ≡ chain 1 (drop (c .before .before .before .before .before .loop .i - 1) (writes (c .before .before .before .before .before .before .before .before .before .before .args .ids .now) (c .before .before .before .before .before .before .before .before .before .before .args .masks .now) vs)))
+abbrev start : tie.After-linked2 Inv-loop μ-loop → tie.Start Inv-loop μ-loop
+start c = c .before .before .before .before .before .before .before .before .before .before
+
+abbrev turn : tie.After-linked2 Inv-loop μ-loop → tie.At-loop Inv-loop μ-loop
+turn c = c .before .before .before .before .before
+
+abbrev run : tie.After-linked2 Inv-loop μ-loop → List ℕ → List Write
+run c vs = writes (start c .args .ids .now) (start c .args .masks .now) vs
+
+run-length : (c : tie.After-linked2 Inv-loop μ-loop) (vs : List ℕ) → length (start c .args .ids .now) ≡ length vs
+    → length (run c vs) ≡ length (start c .args .ids .now)
+run-length c vs q = writes-length (start c .args .ids .now) (start c .args .masks .now) vs (start c .pre .0) q
+
+chained : (c : tie.After-linked2 Inv-loop μ-loop) (vs : List ℕ) → length (start c .args .ids .now) ≡ length vs → (s n r : ℕ)
+    → n ≡ chain s (drop (turn c .loop .i) (run c vs))
+    → r ≡ pick (eqb (turn c .loop .next-id) (getD (start c .args .ids .now) (turn c .loop .i - 1) 0 + s) && eqb (turn c .loop .next-mask) (getD (start c .args .masks .now) (turn c .loop .i - 1) 0)) (n + 1) 1
+    → r ≡ chain s (drop (turn c .loop .i - 1) (run c vs))
+chained c vs q s n r p e =
+    let a = start c .args in
+    let o = turn c .loop in
+    chain-linked s (a .ids .now) (a .masks .now) vs (o .i) (o .i - 1) (o .next-id) (o .next-mask) n r (start c .pre .0) q (omega arith) (omega arith) (o .inv .3) p e
+
+chains : (c : tie.After-linked2 Inv-loop μ-loop) (vs : List ℕ) → length (start c .args .ids .now) ≡ length vs
+    → (c .before .linked .result ≡ chain 0 (drop (turn c .loop .i - 1) (run c vs))) × (c .linked2 .result ≡ chain 1 (drop (turn c .loop .i - 1) (run c vs)))
 chains c vs q =
-    let b = c .before .before .before .before .before .before .before .before .before .before in
-    let a = b .args in
-    let o = c .before .before .before .before .before .loop in
-    let e : o .i ≡ o .i - 1 + 1 = omega arith in
-    let h : o .i - 1 < length (a .ids .now) = omega arith in
-    let K = o .inv .4 vs q in (
-      chain-linked 0 (a .ids .now) (a .masks .now) vs (o .i) (o .i - 1) (o .next-id) (o .next-mask) (o .same) (c .before .linked .result) (b .pre .0) q e h (o .inv .3) (K .sames) (c .before .linked .ensures),
-      chain-linked 1 (a .ids .now) (a .masks .now) vs (o .i) (o .i - 1) (o .next-id) (o .next-mask) (o .rise) (c .linked2 .result) (b .pre .0) q e h (o .inv .3) (K .rises) (c .linked2 .ensures),
-    )
+    let K = turn c .loop .inv .4 vs q in
+    (chained c vs q 0 _ _ (K .sames) (c .before .linked .ensures), chained c vs q 1 _ _ (K .rises) (c .linked2 .ensures))
 
 span-of-requires : tie.Need-span-of-requires Inv-loop μ-loop
 span-of-requires c κs = search needs
@@ -94,15 +114,17 @@ choose-requires c κs =
     let w = span-within (writes (a .ids .now) (a .masks .now) (a .ids .now)) (o .i - 1) _ _ (c .span-of .result) (omega arith) (d .0) (d .1) (c .span-of .ensures) in
     (w .0, w .1, omega (arith, w .2, o .inv .1, length-set (a .least .now) (length (a .ids .now)) 0), omega (arith, w .2))
 
-right : (c : tie.After-choose Inv-loop μ-loop) (vs : List ℕ) → length (c .before .before .before .before .before .before .before .before .before .before .before .before .before .args .ids .now) ≡ length vs
-    → Right (writes (c .before .before .before .before .before .before .before .before .before .before .before .before .before .args .ids .now) (c .before .before .before .before .before .before .before .before .before .before .before .before .before .args .masks .now) vs) (c .before .before .before .before .before .before .before .before .loop .i - 1) (c .choose .result)
+abbrev linked-at : tie.After-choose Inv-loop μ-loop → tie.After-linked2 Inv-loop μ-loop
+linked-at c = c .before .before .before
+
+right : (c : tie.After-choose Inv-loop μ-loop) (vs : List ℕ) → length (start (linked-at c) .args .ids .now) ≡ length vs
+    → Right (run (linked-at c) vs) (turn (linked-at c) .loop .i - 1) (c .choose .result)
 right c vs q =
-    let b = c .before .before .before .before .before .before .before .before .before .before .before .before .before in
-    let a = b .args in
-    let o = c .before .before .before .before .before .before .before .before .loop in
-    let n = writes-length (a .ids .now) (a .masks .now) vs (b .pre .0) q in
-    let d = chains (c .before .before .before) vs q in
-    choice-right (writes (a .ids .now) (a .masks .now) vs) (o .i) (o .i - 1) (c .before .span-of .result) _ _ (o .least) (o .extra) (c .choose .result) (omega arith) (omega arith) (o .inv .4 vs q .plan) (d .0) (d .1) (c .before .span-of .ensures) (c .choose .ensures)
+    let l = linked-at c in
+    let o = turn l .loop in
+    let n = run-length l vs q in
+    let d = chains l vs q in
+    choice-right (run l vs) (o .i) (o .i - 1) (c .before .span-of .result) _ _ (o .least) (o .extra) (c .choose .result) (omega arith) (omega arith) (o .inv .4 vs q .plan) (d .0) (d .1) (c .before .span-of .ensures) (c .choose .ensures)
 
 cast-least : tie.Need-cast-least Inv-loop μ-loop
 cast-least c =

@@ -1,0 +1,24 @@
+-- Channel by channel, as the calls ensure. Assumes nothing.
+use borrow.Author.Needs.{needs}
+use Rattle.combiner.proofs.buffer_after.Statement.{statement}
+use Rattle.combiner.proofs.buffer_after.Tie as tie
+
+choose-requires : tie.Need-choose-requires
+choose-requires c κs = search needs
+
+choose-requires-2 : tie.Need-choose-requires-2
+choose-requires-2 c κs = search needs
+
+choose-requires-3 : tie.Need-choose-requires-3
+choose-requires-3 c κs = search needs
+
+choose-requires-4 : tie.Need-choose-requires-4
+choose-requires-4 c κs = search needs
+
+returns : tie.Need-returns
+returns c = rw (c .choose4 .ensures, c .before .choose3 .ensures, c .before .before .choose2 .ensures, c .before .before .before .choose .ensures)
+
+pub buffer-after-spec : {M : Type 1} → statement M
+buffer-after-spec =
+    tie.close
+    (tie.spec choose-requires choose-requires-2 choose-requires-3 choose-requires-4 returns)

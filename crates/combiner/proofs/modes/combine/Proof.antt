@@ -1,0 +1,93 @@
+-- Arm by arm, as the calls ensure. Assumes nothing.
+use Rattle.combiner.proofs.Codes.{beyond}
+use Rattle.combiner.specs.Modes.{combined}
+use lib.ListN.{List·getD-eq-default}
+use Prim.Native.Nat.{_≤_}
+use borrow.Author.Needs.{needs}
+use Rattle.combiner.proofs.modes.combine.Statement.{statement}
+use Rattle.combiner.proofs.modes.combine.Tie as tie
+
+modulate-requires : tie.Need-modulate-requires
+modulate-requires c κs = search needs
+
+add-requires : tie.Need-add-requires
+add-requires c κs = search needs
+
+add-signed-requires : tie.Need-add-signed-requires
+add-signed-requires c κs = search needs
+
+interpolate-requires : tie.Need-interpolate-requires
+interpolate-requires c κs = search needs
+
+subtract-requires : tie.Need-subtract-requires
+subtract-requires c κs = search needs
+
+multiply-add-requires : tie.Need-multiply-add-requires
+multiply-add-requires c κs = search needs
+
+add-multiply-requires : tie.Need-add-multiply-requires
+add-multiply-requires c κs = search needs
+
+returns : tie.Need-returns
+unfolding combined
+returns c = rw (c .match .keys1)
+
+returns-2 : tie.Need-returns-2
+unfolding combined
+returns-2 c = rw (c .before .match .keys2) (c .modulate .ensures)
+
+returns-3 : tie.Need-returns-3
+unfolding combined
+returns-3 c = rw (c .before .match .keys3) (c .add .ensures)
+
+returns-4 : tie.Need-returns-4
+unfolding combined
+returns-4 c = rw (c .before .match .keys4) (c .add-signed .ensures)
+
+returns-5 : tie.Need-returns-5
+unfolding combined
+returns-5 c = rw (c .before .match .keys5) (c .interpolate .ensures)
+
+returns-6 : tie.Need-returns-6
+unfolding combined
+returns-6 c = rw (c .before .match .keys6) (c .subtract .ensures)
+
+returns-7 : tie.Need-returns-7
+unfolding combined
+returns-7 c = rw (c .match .keys7)
+
+returns-8 : tie.Need-returns-8
+unfolding combined
+returns-8 c = rw (c .match .keys8)
+
+returns-9 : tie.Need-returns-9
+unfolding combined
+returns-9 c = rw (c .before .match .keys9) (c .multiply-add .ensures)
+
+returns-10 : tie.Need-returns-10
+unfolding combined
+returns-10 c =
+    let h : 9 ≤ c .before .before .args .mode = beyond 9 _ (c .before .match .rest) in
+    rw List·getD-eq-default (c .add-multiply .ensures)
+
+pub combine-spec : {M : Type 1} → statement M
+combine-spec =
+    tie.close
+    (tie.spec
+    modulate-requires
+    add-requires
+    add-signed-requires
+    interpolate-requires
+    subtract-requires
+    multiply-add-requires
+    add-multiply-requires
+    returns
+    returns-2
+    returns-3
+    returns-4
+    returns-5
+    returns-6
+    returns-7
+    returns-8
+    returns-9
+    returns-10)

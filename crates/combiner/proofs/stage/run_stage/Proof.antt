@@ -1,0 +1,47 @@
+-- As the calls ensure. Assumes nothing.
+use Rattle.combiner.specs.Stage.{stageOf}
+use borrow.Author.Needs.{needs}
+use Rattle.combiner.proofs.stage.run_stage.Statement.{statement}
+use Rattle.combiner.proofs.stage.run_stage.Tie as tie
+
+rgb-from-requires : tie.Need-rgb-from-requires
+rgb-from-requires c κs = search needs
+
+rgb-from-requires-2 : tie.Need-rgb-from-requires-2
+rgb-from-requires-2 c κs = search needs
+
+rgb-from-requires-3 : tie.Need-rgb-from-requires-3
+rgb-from-requires-3 c κs = search needs
+
+dot3-requires : tie.Need-dot3-requires
+dot3-requires c κs = search needs
+
+mix-rgb-requires : tie.Need-mix-rgb-requires
+mix-rgb-requires c κs = search needs
+
+mix-alpha-requires : tie.Need-mix-alpha-requires
+mix-alpha-requires c κs = search needs
+
+returns : tie.Need-returns
+unfolding stageOf
+returns c =
+    rw (
+      c .mix-alpha .ensures,
+      c .before .mix-rgb .ensures,
+      c .before .before .dot3 .ensures,
+      c .before .before .before .rgb-from3 .ensures,
+      c .before .before .before .before .rgb-from2 .ensures,
+      c .before .before .before .before .before .rgb-from .ensures,
+    )
+
+pub run-stage-spec : {M : Type 1} → statement M
+run-stage-spec =
+    tie.close
+    (tie.spec
+    rgb-from-requires
+    rgb-from-requires-2
+    rgb-from-requires-3
+    dot3-requires
+    mix-rgb-requires
+    mix-alpha-requires
+    returns)

@@ -1,0 +1,5 @@
+pub mod Modes
+pub mod Dot
+pub mod Operands
+pub mod Stage
+pub mod Chain

@@ -1,0 +1,103 @@
+// One channel: the combine modes and the scales. The contracts cite specs/Modes.antt.
+ghost use mathlib.Core.Path.{_≡_};
+ghost use Prim.Native.Nat.{_≤_, _*_, _/_};
+ghost use Rattle.combiner.specs.Modes.{toByte, modulated, added, addedSigned, interpolated, subtracted, multipliedAdded, addedMultiplied, combined, factorOf};
+
+// The one division by 255. The largest number divided is a dot3 of equal corners, 3 times 255 times 255.
+pub fn over_255(n: u32) -> u32
+    requires { ⌜ n ≤ 195075 ⌝ }
+    ensures { λ r. ⌜ r ≡ n / 255 ⌝ }
+{
+    n / 255
+}
+
+pub fn to_byte(n: u32) -> u8
+    ensures { λ r. ⌜ r ≡ toByte n ⌝ }
+{
+    if n < 255 { n as u8 } else { 255 }
+}
+
+fn product(a: u8, b: u8) -> u32
+    ensures { λ r. ⌜ (r ≡ a * b) × (r ≤ 65025) ⌝ }
+{
+    a as u32 * b as u32
+}
+
+fn modulate(a: u8, b: u8) -> u8
+    ensures { λ r. ⌜ r ≡ modulated a b ⌝ }
+{
+    to_byte(over_255(product(a, b)))
+}
+
+fn add(a: u8, b: u8) -> u8
+    ensures { λ r. ⌜ r ≡ added a b ⌝ }
+{
+    to_byte(a as u32 + b as u32)
+}
+
+fn add_signed(a: u8, b: u8) -> u8
+    ensures { λ r. ⌜ r ≡ addedSigned a b ⌝ }
+{
+    let sum = a as u32 + b as u32;
+    if sum < 128 { 0 } else { to_byte(sum - 128) }
+}
+
+fn interpolate(a: u8, b: u8, c: u8) -> u8
+    ensures { λ r. ⌜ r ≡ interpolated a b c ⌝ }
+{
+    to_byte(over_255(product(a, c) + product(b, 255 - c)))
+}
+
+fn subtract(a: u8, b: u8) -> u8
+    ensures { λ r. ⌜ r ≡ subtracted a b ⌝ }
+{
+    if a < b { 0 } else { a - b }
+}
+
+fn multiply_add(a: u8, b: u8, c: u8) -> u8
+    ensures { λ r. ⌜ r ≡ multipliedAdded a b c ⌝ }
+{
+    to_byte(over_255(product(a, b) + 255 * c as u32))
+}
+
+fn add_multiply(a: u8, b: u8, c: u8) -> u8
+    ensures { λ r. ⌜ r ≡ addedMultiplied a b c ⌝ }
+{
+    modulate(add(a, b), c)
+}
+
+// A channel of a stage's result, before its scale; dot is the stage's dot3.
+pub fn combine(mode: u32, a: u8, b: u8, c: u8, dot: u8) -> u8
+    ensures { λ r. ⌜ r ≡ combined mode a b c dot ⌝ }
+{
+    match mode {
+        0 => a,
+        1 => modulate(a, b),
+        2 => add(a, b),
+        3 => add_signed(a, b),
+        4 => interpolate(a, b, c),
+        5 => subtract(a, b),
+        6 => dot,
+        7 => dot,
+        8 => multiply_add(a, b, c),
+        _ => add_multiply(a, b, c),
+    }
+}
+
+pub fn factor(scale: u32) -> u32
+    ensures { λ r. ⌜ (r ≡ factorOf scale) × (r ≤ 4) ⌝ }
+{
+    match scale {
+        0 => 1,
+        1 => 2,
+        2 => 4,
+        _ => 1,
+    }
+}
+
+pub fn times(x: u8, factor: u32) -> u8
+    requires { ⌜ factor ≤ 4 ⌝ }
+    ensures { λ r. ⌜ r ≡ toByte (x * factor) ⌝ }
+{
+    to_byte(x as u32 * factor)
+}

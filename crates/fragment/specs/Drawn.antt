@@ -1,0 +1,104 @@
+-- What `draw` answers: the verdict with what is then stored, or a refusal: 6, 13, 14, 12.
+use mathlib.Core.Bool.{Bool, not, _&&_, _||_}
+use mathlib.Core.List.{List, [], _∷_}
+use Prim.Native.Nat.{ℕ}
+use lib.Dec.{eqb, ltb}
+use Rattle.numbers.specs.Pick.{pick}
+use Rattle.registers.specs.State.{State}
+use Rattle.decode.specs.Decoded.{decodedOf}
+use Rattle.decode.specs.declared.records.Colour.{Colour}
+use Rattle.decode.specs.declared.records.ColourOperation.{ColourOperation}
+use Rattle.decode.specs.declared.records.ColourFormat.{ColourFormat}
+use Rattle.decode.specs.declared.records.Framebuffer.{Framebuffer}
+use Rattle.decode.specs.declared.records.Settings.{Settings}
+use Rattle.decode.specs.declared.Decoded.{Decoded}
+use Rattle.decode.specs.declared.Decoded.the-variants as decoded
+use Rattle.combiner.specs.declared.Given.{Given}
+use Rattle.combiner.specs.Chain.{combinerOf}
+use Rattle.fragment.specs.Tests.{verdictNumber, verdictOf}
+use Rattle.fragment.specs.Stores.{stencilAfter, depthAfter, colourAfter}
+use Rattle.fragment.specs.declared.Verdict.{Verdict}
+use Rattle.fragment.specs.declared.Stored.{Stored}
+use Rattle.fragment.specs.declared.Judged.{Judged}
+use Rattle.fragment.specs.declared.Outcome.{Outcome}
+use Rattle.fragment.specs.declared.Drawn.{Drawn}
+use Rattle.fragment.specs.declared.Drawn.the-variants.{Done, Refused}
+
+-- THE PARTS
+
+-- the verdict, stencil and depth, from the result's alpha
+abbrev pub withVerdict : Framebuffer → ℕ → ℕ → ℕ → Verdict → Judged
+withVerdict f incoming stencil depth v =
+    record { verdict = v; stencil = stencilAfter f v stencil; depth = depthAfter f v incoming depth }
+
+unfoldable pub judgedOf : Framebuffer → ℕ → ℕ → ℕ → ℕ → Judged
+judgedOf f alpha incoming stencil depth = withVerdict f incoming stencil depth (verdictOf f alpha incoming stencil depth)
+
+abbrev pub storedAfter : Framebuffer → Colour → Stored → Judged → Outcome
+storedAfter f result stored j =
+    record {
+      verdict = j .verdict;
+      stored = record { colour = colourAfter f (j .verdict) result (stored .colour); stencil = j .stencil; depth = j .depth };
+    }
+
+-- what becomes of a fragment whose combiner result is given
+abbrev pub outcomeWith : Framebuffer → ℕ → Stored → Colour → Outcome
+outcomeWith f incoming stored result =
+    storedAfter f result stored (judgedOf f (result .alpha) incoming (stored .stencil) (stored .depth))
+
+unfoldable pub outcomeOf : Settings → Given → ℕ → Stored → Outcome
+outcomeOf s g incoming stored = outcomeWith (s .framebuffer) incoming stored (combinerOf (s .stages) (s .«buffer_fog») g)
+
+-- THE REFUSALS
+
+-- not built: 100 mode not 0, bit 8, 24 or 25 set
+abbrev pub operationUnbuilt : ColourOperation → Bool
+operationUnbuilt o = not (eqb (o .mode) 0) || eqb (o .blend) 1 || eqb (o .«second_lines») 1 || eqb (o .nothing) 1
+
+-- 117 not size 2 with format 0
+abbrev pub formatUnbuilt : ColourFormat → Bool
+formatUnbuilt f = not (eqb (f .size) 2 && eqb (f .format) 0)
+
+-- the lowest id that asks for what is not built, 0 for none; of E0 that is a fog mode that isn't 0
+unfoldable pub unbuiltId : Settings → ℕ
+unbuiltId s =
+    pick (not (eqb (s .«buffer_fog» .update .«fog_mode») 0)) 0xE0
+    (pick (operationUnbuilt (s .framebuffer .blending .operation)) 0x100
+    (pick (formatUnbuilt (s .framebuffer .buffers .«colour_format»)) 0x117 0))
+
+-- 65,535 for depth format 0, else 16,777,215
+unfoldable pub largest : ℕ → ℕ
+largest format = pick (eqb format 0) 65535 16777215
+
+abbrev pub refusal : ℕ → ℕ → Drawn
+refusal n p = Refused (record { number = n; place = p })
+
+-- THE ANSWER
+
+unfoldable pub drawnWith : Settings → Given → ℕ → Stored → Drawn
+drawnWith s g incoming stored =
+    let top = largest (s .framebuffer .buffers .«depth_format») in
+    pick (eqb (unbuiltId s) 0)
+    (pick (ltb top incoming) (refusal 12 0)
+    (pick (ltb top (stored .depth)) (refusal 12 1) (Done (outcomeOf s g incoming stored))))
+    (refusal 14 (unbuiltId s))
+
+unfoldable pub drawnFrom : Decoded → Given → ℕ → Stored → Drawn
+drawnFrom (decoded.Refused r) g incoming stored = Refused r
+drawnFrom (decoded.Held s) g incoming stored = drawnWith s g incoming stored
+
+-- of a state, the given colours, the incoming depth, and what is stored
+abbrev pub drawnOf : State → Given → ℕ → Stored → Drawn
+drawnOf s g incoming stored = drawnFrom (decodedOf s) g incoming stored
+
+-- the document's number and values for each case: 0, the verdict's number, and the colour, stencil and depth that are then stored; a refusal's number and its place
+abbrev pub numberOf : Drawn → ℕ
+numberOf (Done o) = 0
+numberOf (Refused r) = r .number
+
+abbrev pub colourValues : Colour → List ℕ → List ℕ
+colourValues c rest = c .red ∷ c .green ∷ c .blue ∷ c .alpha ∷ rest
+
+abbrev pub valuesOf : Drawn → List ℕ
+valuesOf (Done o) = verdictNumber (o .verdict) ∷ colourValues (o .stored .colour) (o .stored .stencil ∷ o .stored .depth ∷ [])
+valuesOf (Refused r) = r .place ∷ []
