@@ -11,6 +11,10 @@ use Rattle.reader.specs.Verdict.{verdict}
 use Rattle.decode.specs.Ranges.{signed}
 use Rattle.decode.specs.Fields.{twos}
 use Rattle.runs.specs.Packed.{writes, packed}
+use Rattle.combiner.specs.Modes.{combined}
+use Rattle.combiner.specs.Dot.{dot3Of}
+use Rattle.combiner.specs.declared.dot.Rgb.{Rgb}
+use Rattle.fragment.specs.Stencil.{operated, masked}
 
 pub record Case : Type 0 where
   pub got : List ℕ
@@ -36,12 +40,15 @@ abbrev list : ℕ → ℕ → List ℕ
 list header n = 0 ∷ header ∷ replicate n 0
 
 -- cell 107 after the value 1F71 is written to it under a mask
-abbrev masked : ℕ → ℕ
-masked m = getD (apply zeros (writing 0x107 m 0x1F71) .cells) 0x107 0
+abbrev cell107 : ℕ → ℕ
+cell107 m = getD (apply zeros (writing 0x107 m 0x1F71) .cells) 0x107 0
 
 -- E6 at 127, then the fog entries' low words 5 and 6
 abbrev fogged : State
 fogged = applyAll (st (set (replicate 768 0) 0xE6 127) (replicate 128 0) []) (writing 0xE8 15 5 ∷ writing 0xE8 15 6 ∷ [])
+
+abbrev grey : ℕ → Rgb
+grey x = record { red = x; green = x; blue = x }
 
 unfoldable pub cases : List Case
 cases =
@@ -49,7 +56,7 @@ cases =
     case (ids (expansion (0xAAAAAAAA ∷ 0x802F011C ∷ 0xBBBBBBBB ∷ 0xCCCCCCCC ∷ []))) (0x11C ∷ 0x11D ∷ 0x11E ∷ [])
     ∷ case (numbers (verdict (0xAAAAAAAA ∷ 0x802F011C ∷ 0xBBBBBBBB ∷ 0xCCCCCCCC ∷ []))) (0 ∷ 3 ∷ [])
     -- value 1F71 to 107, cell 0: mask 1 leaves 71, mask 2 leaves 1F00
-    ∷ case (masked 1 ∷ masked 2 ∷ []) (0x71 ∷ 0x1F00 ∷ [])
+    ∷ case (cell107 1 ∷ cell107 2 ∷ []) (0x71 ∷ 0x1F00 ∷ [])
     -- consecutive from 2FE, one extra: accepted. Two extra: refusal 3. From 23B, one extra: 4
     ∷ case (numbers (verdict (list 0x801F02FE 2))) (0 ∷ 2 ∷ [])
     ∷ case (numbers (verdict (list 0x802F02FE 2))) (3 ∷ 0 ∷ [])
@@ -58,6 +65,11 @@ cases =
     ∷ case (getD (fogged .fog) 127 0 ∷ getD (fogged .fog) 0 0 ∷ getD (fogged .cells) 0xE6 0 ∷ []) (5 ∷ 6 ∷ 1 ∷ [])
     -- 68 field 3FF is -1, 200 is -512, 1FF is 511, here in two's complement
     ∷ case (map (λ x. twos (signed 10 x)) (0x3FF ∷ 0x200 ∷ 0x1FF ∷ [])) (0xFFFFFFFF ∷ 0xFFFFFE00 ∷ 511 ∷ [])
+    -- stencil A5, replace by 3C, buffer mask 0F: AC. With mask FF, FF by operation 3: FF; by 6: 0
+    ∷ case (masked 0x0F 0xA5 (operated 2 0xA5 0x3C) ∷ masked 0xFF 0xFF (operated 3 0xFF 0) ∷ masked 0xFF 0xFF (operated 6 0xFF 0) ∷ [])
+    (0xAC ∷ 0xFF ∷ 0 ∷ [])
+    -- modulate 128, 128: 64. Dot3 of white and (128,128,128): 3
+    ∷ case (combined 1 128 128 0 0 ∷ dot3Of (grey 255) (grey 128) ∷ []) (64 ∷ 3 ∷ [])
     -- ids 41, 41, 42, 43, mask F, values 1-4: `1 000F0041 2 802F0041 3 4`
     ∷ case (packed (writes (0x41 ∷ 0x41 ∷ 0x42 ∷ 0x43 ∷ []) (replicate 4 15) (1 ∷ 2 ∷ 3 ∷ 4 ∷ []))) (1 ∷ 0x000F0041 ∷ 2 ∷ 0x802F0041 ∷ 3 ∷ 4 ∷ [])
     -- ids 41, 41, 42, values 1-3: `1 001F0041 2 0 3 000F0042`
