@@ -1,4 +1,4 @@
--- What laying out goes by: the step of a command by the ids of its first two writes, and the sizes that were planned.
+-- What laying out goes by: the step of a command by the ids of its first two writes, and the sizes that were planned. Not of the document.
 use mathlib.Core.Path.{_≡_}
 use mathlib.Core.List.{List}
 use Prim.Native.Nat.{ℕ, _+_, _<_}

@@ -1,4 +1,4 @@
--- What planning a run finds: its words, and the size of the first command from each write on.
+-- What planning a run finds: its words, and the size of the first command from each write on. Not of the document.
 use mathlib.Core.Path.{_≡_}
 use mathlib.Core.List.{List}
 use Prim.Native.Nat.{ℕ, _+_, _≤_, _<_}

@@ -25,7 +25,7 @@ abbrev pub Packable : List Write → Type 0
 Packable [] = Unit {0}
 Packable (w ∷ l) = (w .mask ≤ 15) × (allowed (w .id) (w .mask) ≡ true) × Packable l
 
--- bit 31 of a command of the first k writes: clear where they have one id, as a lone write has
+-- bit 31 of a command of the first k writes, where one command can carry them: clear where they have one id, as a lone write has
 abbrev pub stepFor : ℕ → List Write → ℕ
 stepFor k l = pick (leb k (chain 0 l)) 0 1
 
@@ -39,7 +39,7 @@ command k [] = []
 command k (w ∷ l) =
     w .value ∷ header (w .id) (w .mask) k (stepFor k (w ∷ l)) ∷ take (k - 1) (values l) ++ replicate ((k + 1) % 2) 0
 
--- one command can carry the first k writes of a run, and this is its length
+-- one command can carry the first k writes of a run, with what follows from that for whoever writes it. Not of the document
 pub record OneCommand (ws : List Write) (k : ℕ) : Type 0 where
   pub low : 1 ≤ k
   pub cap : k ≤ 256

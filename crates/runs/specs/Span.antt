@@ -16,6 +16,6 @@ unfoldable pub chain : ℕ → List Write → ℕ
 chain s [] = 0
 chain s (a ∷ l) = let n = chain s l in pick (leads s a l) (suc n) 1
 
--- THE SPAN: 1 to 256 writes of one mask, of one id or of rising ids
+-- THE SPAN: at most 256 writes of one mask, of one id or of ids that rise by one; at least one, if there is a write
 unfoldable pub span : List Write → ℕ
 span l = min 256 (max (chain 0 l) (chain 1 l))
