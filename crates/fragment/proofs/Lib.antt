@@ -1,2 +1,5 @@
 pub mod Cases
 pub mod Channels
+pub mod Comparisons
+pub mod Kept
+pub mod Determined
