@@ -8,6 +8,8 @@ use Rattle.registers.specs.Ports.{fogCells, fogEntries}
 use Rattle.registers.specs.Applied.{cellsAfter, put, applyAll}
 use Rattle.reader.specs.Verdict.{firstFault, judge, verdict}
 use Rattle.decode.specs.Ranges.{signed}
+use Rattle.lines.specs.Text.{digits, decimal}
+use Rattle.lines.specs.Lines.{firstWords, lineOf}
 use Rattle.cuts.specs.Cuts.{table, sizesFrom}
 use Rattle.runs.specs.Span.{chain, span}
 use Rattle.runs.specs.Packed.{packed}
@@ -16,5 +18,5 @@ use Rattle.combiner.specs.Dot.{centred, clamped, dot3Of}
 use Rattle.demands.specs.Cases.{Case, cases}
 
 pub examples : map (λ (c : Case). c .got) cases ≡ map (λ (c : Case). c .want) cases
-unfolding cases faultOf run places commands join expansion held bitsIn bitsOf fogCells fogEntries cellsAfter put applyAll firstFault judge verdict signed table sizesFrom chain span packed combined centred clamped dot3Of
+unfolding cases faultOf run places commands join expansion held bitsIn bitsOf fogCells fogEntries cellsAfter put applyAll firstFault judge verdict firstWords lineOf digits decimal signed table sizesFrom chain span packed combined centred clamped dot3Of
 examples = refl

@@ -10,6 +10,8 @@ use Rattle.registers.specs.Applied.{apply, applyAll}
 use Rattle.reader.specs.Verdict.{verdict}
 use Rattle.decode.specs.Ranges.{signed}
 use Rattle.decode.specs.Fields.{twos}
+use Rattle.lines.specs.Text.{ascii}
+use Rattle.lines.specs.Lines.{lineOf}
 use Rattle.runs.specs.Packed.{writes, packed}
 use Rattle.combiner.specs.Modes.{combined}
 use Rattle.combiner.specs.Dot.{dot3Of}
@@ -54,7 +56,7 @@ unfoldable pub cases : List Case
 cases =
     -- `AAAAAAAA 802F011C BBBBBBBB CCCCCCCC` is writes to 11C, 11D, 11E; program output `ok 3`
     case (ids (expansion (0xAAAAAAAA ∷ 0x802F011C ∷ 0xBBBBBBBB ∷ 0xCCCCCCCC ∷ []))) (0x11C ∷ 0x11D ∷ 0x11E ∷ [])
-    ∷ case (numbers (verdict (0xAAAAAAAA ∷ 0x802F011C ∷ 0xBBBBBBBB ∷ 0xCCCCCCCC ∷ []))) (0 ∷ 3 ∷ [])
+    ∷ case (lineOf (replicate 4 0xAA ++ (0x1C ∷ 0x01 ∷ 0x2F ∷ 0x80 ∷ []) ++ replicate 4 0xBB ++ replicate 4 0xCC)) (ascii "ok 3\n")
     -- value 1F71 to 107, cell 0: mask 1 leaves 71, mask 2 leaves 1F00
     ∷ case (cell107 1 ∷ cell107 2 ∷ []) (0x71 ∷ 0x1F00 ∷ [])
     -- consecutive from 2FE, one extra: accepted. Two extra: refusal 3. From 23B, one extra: 4
