@@ -6,14 +6,14 @@ use Rattle.decode.specs.declared.records.Colour.{Colour}
 use Rattle.decode.specs.declared.records.Stage.{Stage}
 use Rattle.decode.specs.declared.records.Stages.{Stages}
 use Rattle.decode.specs.declared.records.BufferFog.{BufferFog}
-use Rattle.combiner.specs.Operands.{black, sourcesOf}
+use Rattle.combiner.specs.Operands.{black, byCode, sourcesOf}
 use Rattle.combiner.specs.Stage.{stageOf}
 use Rattle.combiner.specs.declared.Given.{Given}
 use Rattle.combiner.specs.declared.Seen.{Seen}
 
 -- a stage's result, from what it sees
 unfoldable pub resultOf : Given → Stage → Seen → Colour
-resultOf g s seen = stageOf s (sourcesOf g (s .colour) seen)
+resultOf g s seen = stageOf s (sourcesOf (byCode g (s .colour) seen) (s .source))
 
 -- stage 0 sees zero as Previous, and FD as Previous buffer
 abbrev pub atFirst : Colour → Seen

@@ -13,9 +13,12 @@ abbrev pub total : Rgb → Rgb → ℤ
 total a b =
     centred (a .red) *ℤ centred (b .red) +ℤ centred (a .green) *ℤ centred (b .green) +ℤ centred (a .blue) *ℤ centred (b .blue)
 
-unfoldable pub clamped : ℤ → ℕ
-clamped (pos n) = toByte (n / 255)
-clamped (negsuc n) = 0
+unfoldable pub atLeastZero : ℤ → ℕ
+atLeastZero (pos n) = n
+atLeastZero (negsuc n) = 0
+
+abbrev pub clamped : ℤ → ℕ
+clamped z = toByte (atLeastZero z / 255)
 
 unfoldable pub dot3Of : Rgb → Rgb → ℕ
 dot3Of a b = clamped (total a b)

@@ -5,16 +5,18 @@ use lib.ListN.{getD}
 use lib.Dec.{eqb}
 use Rattle.numbers.specs.Pick.{pick}
 use Rattle.decode.specs.declared.records.Colour.{Colour}
+use Rattle.decode.specs.declared.records.Source.{Source}
 use Rattle.combiner.specs.declared.Given.{Given}
 use Rattle.combiner.specs.declared.Seen.{Seen}
 use Rattle.combiner.specs.declared.dot.Rgb.{Rgb}
+use Rattle.combiner.specs.declared.operands.Sources.{Sources}
 
 abbrev pub black : Colour
 black = record { red = 0; green = 0; blue = 0; alpha = 0 }
 
 -- by code: the seven given colours, 7 to Ch without a name, Previous buffer, Constant, Previous
-abbrev pub sourcesOf : Given → Colour → Seen → List Colour
-sourcesOf g constant s =
+abbrev pub byCode : Given → Colour → Seen → List Colour
+byCode g constant s =
     g .primary
     ∷ g .«fragment_primary»
     ∷ g .«fragment_secondary»
@@ -29,15 +31,28 @@ sourcesOf g constant s =
     ∷ []
 
 abbrev pub sourceOf : List Colour → ℕ → Colour
-sourceOf sources code = getD sources (code % 16) black
+sourceOf colours code = getD colours (code % 16) black
+
+-- a stage's six sources
+abbrev pub sourcesOf : List Colour → Source → Sources
+sourcesOf colours s =
+    record {
+      rgb0 = sourceOf colours (s .rgb0);
+      rgb1 = sourceOf colours (s .rgb1);
+      rgb2 = sourceOf colours (s .rgb2);
+      alpha0 = sourceOf colours (s .alpha0);
+      alpha1 = sourceOf colours (s .alpha1);
+      alpha2 = sourceOf colours (s .alpha2);
+    }
 
 -- "One minus" is 255 minus: an even code names a part of the source, the odd code after it one minus that part
 abbrev pub oneMinus : ℕ → ℕ → ℕ
 oneMinus code x = pick (eqb (code % 2) 1) (255 - x) x
 
--- RGB operands 0 colour, 2 alpha, 4 red, 8 green, Ch blue; `own` is the source's channel that the operand is for
+-- RGB operands: 0 is each channel's own; 2 alpha, 4 red, 8 green and Ch blue are the source's, the same for all three channels
 abbrev pub rgbPart : ℕ → Colour → ℕ → ℕ
-rgbPart code s own = getD (own ∷ s .alpha ∷ s .red ∷ 0 ∷ s .green ∷ 0 ∷ s .blue ∷ 0 ∷ []) (code / 2 % 8) 0
+rgbPart code s own =
+    pick (eqb (code / 2 % 8) 0) own (getD (0 ∷ s .alpha ∷ s .red ∷ 0 ∷ s .green ∷ 0 ∷ s .blue ∷ 0 ∷ []) (code / 2 % 8) 0)
 
 abbrev pub rgbOperand : ℕ → Colour → Rgb
 rgbOperand code s =

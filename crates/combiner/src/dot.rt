@@ -2,7 +2,7 @@
 ghost use mathlib.Core.Path.{_≡_};
 ghost use Prim.Native.Nat.{_≤_};
 ghost use lib.IntN.{natAbs, _*ℤ_};
-ghost use Rattle.combiner.specs.Dot.{centred, clamped, dot3Of};
+ghost use Rattle.combiner.specs.Dot.{centred, atLeastZero, clamped, dot3Of};
 use crate::modes;
 
 pub struct Rgb {
@@ -23,14 +23,19 @@ fn term(a: u8, b: u8) -> i32
     centre(a) * centre(b)
 }
 
+fn at_least_zero(total: i32) -> u32
+    requires { ⌜ natAbs total ≤ 195075 ⌝ }
+    ensures { λ r. ⌜ (r ≡ atLeastZero total) × (r ≤ 195075) ⌝ }
+{
+    if total < 0 { 0 } else { total as u32 }
+}
+
+// The total is clamped first, so that its sign needs no branch.
 fn clamp(total: i32) -> u8
     requires { ⌜ natAbs total ≤ 195075 ⌝ }
     ensures { λ r. ⌜ r ≡ clamped total ⌝ }
 {
-    if total < 0 {
-        return 0;
-    }
-    modes::to_byte(modes::over_255(total as u32))
+    modes::to_byte(modes::over_255(at_least_zero(total)))
 }
 
 pub fn dot3(a: Rgb, b: Rgb) -> u8

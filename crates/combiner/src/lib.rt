@@ -31,8 +31,9 @@ pub struct Seen {
 fn result(g: Given, s: Stage, seen: Seen) -> Colour
     ensures { λ r. ⌜ r ≡ resultOf g s seen ⌝ }
 {
+    let source = s.source;
     let constant = s.colour;
-    stage::run_stage(s, operands::list_sources(g, constant, seen))
+    stage::run_stage(s, operands::find_sources(g, source, constant, seen))
 }
 
 // rgb and alpha are the stage's bits of E0.

@@ -1,15 +1,26 @@
 // A stage's sources, and the operands taken from them. The contracts cite specs/Operands.antt.
 ghost use mathlib.Core.Path.{_≡_};
 ghost use Rattle.numbers.specs.Pick.{pick};
-ghost use Rattle.combiner.specs.Operands.{sourcesOf, sourceOf, oneMinus, rgbPart, rgbOperand, alphaPart, alphaOperand};
+ghost use Rattle.combiner.specs.Operands.{byCode, sourcesOf, oneMinus, rgbOperand, alphaPart, alphaOperand};
 use crate::Given;
 use crate::Seen;
 use crate::dot::Rgb;
 use decode::records::Colour;
+use decode::records::Source;
 
-// By source code; 7 to Ch have no name.
-pub fn list_sources(g: Given, constant: Colour, seen: Seen) -> [Colour; 16]
-    ensures { λ r. ⌜ r ≡ sourcesOf g constant seen ⌝ }
+// The colours that a stage's source codes name.
+pub struct Sources {
+    pub rgb0: Colour,
+    pub rgb1: Colour,
+    pub rgb2: Colour,
+    pub alpha0: Colour,
+    pub alpha1: Colour,
+    pub alpha2: Colour,
+}
+
+// One table by code for all six; codes 7 to Ch have no name.
+pub fn find_sources(g: Given, s: Source, constant: Colour, seen: Seen) -> Sources
+    ensures { λ r. ⌜ r ≡ sourcesOf (byCode g constant seen) s ⌝ }
 {
     let primary = g.primary;
     let fragment_primary = g.fragment_primary;
@@ -26,7 +37,7 @@ pub fn list_sources(g: Given, constant: Colour, seen: Seen) -> [Colour; 16]
     };
     let buffer = seen.buffer;
     let previous = seen.previous;
-    [
+    let by_code = [
         primary,
         fragment_primary,
         fragment_secondary,
@@ -43,13 +54,21 @@ pub fn list_sources(g: Given, constant: Colour, seen: Seen) -> [Colour; 16]
         buffer,
         constant,
         previous,
-    ]
-}
-
-pub fn source(sources: [Colour; 16], code: u32) -> Colour
-    ensures { λ r. ⌜ r ≡ sourceOf sources code ⌝ }
-{
-    sources[(code % 16) as usize]
+    ];
+    let rgb0 = by_code[(s.rgb0 % 16) as usize];
+    let rgb1 = by_code[(s.rgb1 % 16) as usize];
+    let rgb2 = by_code[(s.rgb2 % 16) as usize];
+    let alpha0 = by_code[(s.alpha0 % 16) as usize];
+    let alpha1 = by_code[(s.alpha1 % 16) as usize];
+    let alpha2 = by_code[(s.alpha2 % 16) as usize];
+    Sources {
+        rgb0,
+        rgb1,
+        rgb2,
+        alpha0,
+        alpha1,
+        alpha2,
+    }
 }
 
 // a where the test holds, else b.
@@ -65,20 +84,16 @@ fn one_minus(code: u32, x: u8) -> u8
     choose(code % 2 == 1, 255 - x, x)
 }
 
-fn rgb_part(code: u32, s: Colour, own: u8) -> u8
-    ensures { λ r. ⌜ r ≡ rgbPart code s own ⌝ }
-{
-    let parts = [own, s.alpha, s.red, 0, s.green, 0, s.blue, 0];
-    parts[(code / 2 % 8) as usize]
-}
-
 pub fn rgb_operand(code: u32, s: Colour) -> Rgb
     ensures { λ r. ⌜ r ≡ rgbOperand code s ⌝ }
 {
+    let half = code / 2 % 8;
+    let parts = [0, s.alpha, s.red, 0, s.green, 0, s.blue, 0];
+    let part = parts[half as usize];
     Rgb {
-        red: one_minus(code, rgb_part(code, s, s.red)),
-        green: one_minus(code, rgb_part(code, s, s.green)),
-        blue: one_minus(code, rgb_part(code, s, s.blue)),
+        red: one_minus(code, choose(half == 0, s.red, part)),
+        green: one_minus(code, choose(half == 0, s.green, part)),
+        blue: one_minus(code, choose(half == 0, s.blue, part)),
     }
 }
 

@@ -1,5 +1,5 @@
 -- What `draw` answers: the verdict with what is then stored, or a refusal: 6, 13, 14, 12.
-use mathlib.Core.Bool.{Bool, not, _&&_, _||_}
+use mathlib.Core.Bool.{Bool, false, not, _&&_, _||_}
 use mathlib.Core.List.{List, [], _∷_}
 use Prim.Native.Nat.{ℕ}
 use lib.Dec.{eqb, ltb}
@@ -7,6 +7,7 @@ use Rattle.numbers.specs.Pick.{pick}
 use Rattle.registers.specs.State.{State}
 use Rattle.decode.specs.Decoded.{decodedOf}
 use Rattle.decode.specs.declared.records.Colour.{Colour}
+use Rattle.decode.specs.declared.records.UpdateBuffer.{UpdateBuffer}
 use Rattle.decode.specs.declared.records.ColourOperation.{ColourOperation}
 use Rattle.decode.specs.declared.records.ColourFormat.{ColourFormat}
 use Rattle.decode.specs.declared.records.Framebuffer.{Framebuffer}
@@ -59,10 +60,21 @@ operationUnbuilt o = not (eqb (o .mode) 0) || eqb (o .blend) 1 || eqb (o .«seco
 abbrev pub formatUnbuilt : ColourFormat → Bool
 formatUnbuilt f = not (eqb (f .size) 2 && eqb (f .format) 0)
 
--- the lowest id that asks for what is not built, 0 for none; of E0 that is a fog mode that isn't 0
+-- E0 fog mode not 0
+abbrev pub fogUnbuilt : UpdateBuffer → Bool
+fogUnbuilt u = not (eqb (u .«fog_mode») 0)
+
+-- the register i asks for what is not built
+unfoldable pub unbuiltAt : Settings → ℕ → Bool
+unbuiltAt s i =
+    pick (eqb i 0xE0) (fogUnbuilt (s .«buffer_fog» .update))
+    (pick (eqb i 0x100) (operationUnbuilt (s .framebuffer .blending .operation))
+    (pick (eqb i 0x117) (formatUnbuilt (s .framebuffer .buffers .«colour_format»)) false))
+
+-- the lowest id that does, 0 for none
 unfoldable pub unbuiltId : Settings → ℕ
 unbuiltId s =
-    pick (not (eqb (s .«buffer_fog» .update .«fog_mode») 0)) 0xE0
+    pick (fogUnbuilt (s .«buffer_fog» .update)) 0xE0
     (pick (operationUnbuilt (s .framebuffer .blending .operation)) 0x100
     (pick (formatUnbuilt (s .framebuffer .buffers .«colour_format»)) 0x117 0))
 

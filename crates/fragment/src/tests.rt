@@ -16,10 +16,16 @@ fn compare(code: u32, a: u32, b: u32) -> bool
     by_code[(code % 8) as usize]
 }
 
+fn compare_bytes(code: u32, a: u8, b: u8) -> bool
+    ensures { λ r. ⌜ r ≡ compared code a b ⌝ }
+{
+    compare(code, a as u32, b as u32)
+}
+
 fn alpha_passes(t: AlphaTest, alpha: u8) -> bool
     ensures { λ r. ⌜ r ≡ alphaPasses t alpha ⌝ }
 {
-    (t.enable == 0) | compare(t.function, alpha as u32, t.reference as u32)
+    (t.enable == 0) | compare_bytes(t.function, alpha, t.reference)
 }
 
 pub fn stencil_active(t: StencilTest, format: u32) -> bool
@@ -31,9 +37,7 @@ pub fn stencil_active(t: StencilTest, format: u32) -> bool
 fn stencil_passes(t: StencilTest, format: u32, stored: u8) -> bool
     ensures { λ r. ⌜ r ≡ stencilPasses t format stored ⌝ }
 {
-    let reference = t.reference & t.mask;
-    let held = stored & t.mask;
-    !stencil_active(t, format) | compare(t.function, reference as u32, held as u32)
+    !stencil_active(t, format) | compare_bytes(t.function, t.reference & t.mask, stored & t.mask)
 }
 
 fn depth_passes(t: DepthColourMask, incoming: u32, stored: u32) -> bool

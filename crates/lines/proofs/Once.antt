@@ -1,6 +1,5 @@
 -- The promise of each public function settles its calls: any two answers that it allows, with what is then in the lent space, are equal.
 -- Assumes nothing.
-use mathlib.Core.Path.{_≡_}
 use contract.Lifetimes.{Lfts}
 use borrow.Fn.Kinds.{Dens}
 use denote.Ref.{now}

@@ -1,6 +1,6 @@
 // The small program's line: the bytes of an input read as words, and the verdict on them as text. The contracts cite specs/Lines.antt.
 ghost use mathlib.Core.Path.{_≡_};
-ghost use Prim.Native.Nat.{_+_, _*_, _/_, _%_, _≤_, _<_};
+ghost use Prim.Native.Nat.{_+_, _*_, _/_, _≤_};
 ghost use lib.ListN.{length, take};
 ghost use Rattle.numbers.specs.Answer.{answered, refused};
 ghost use Rattle.reader.specs.Read.{told};
@@ -26,7 +26,7 @@ fn put_decimal(line: &mut [u8], at: usize, n: usize) -> usize
     requires { ⌜ at + length (decimal n) ≤ length (now line) ⌝ }
     ensures { λ r. ⌜ (r ≡ at + length (decimal n)) × (now (line .exit) ≡ over (now (line .entry)) at (decimal n)) ⌝ }
 {
-    let last = 48 + (n % 10) as u8;
+    let last = b'0' + (n % 10) as u8;
     if n < 10 {
         line[at] = last;
         return at + 1;
@@ -36,7 +36,7 @@ fn put_decimal(line: &mut [u8], at: usize, n: usize) -> usize
     end + 1
 }
 
-// The line for an accepted list. No line is longer than 53 bytes: two texts of 12 bytes, two numbers of 20 digits, and the newline.
+// The line for an accepted list.
 fn put_ok(line: &mut [u8], n: usize) -> usize
     requires { ⌜ 64 ≤ length (now line) ⌝ }
     ensures { λ r. ⌜ Put (now (line .entry)) (lineFor (answered n)) r (now (line .exit)) ⌝ }
@@ -46,7 +46,7 @@ fn put_ok(line: &mut [u8], n: usize) -> usize
     put_text(line, b, b"\n")
 }
 
-// The line for a refused one.
+// The line for a refused one. It has at most 53 bytes: the texts 12, each number 20, and the newline.
 fn put_refused(line: &mut [u8], number: u32, place: usize) -> usize
     requires { ⌜ 64 ≤ length (now line) ⌝ }
     ensures { λ r. ⌜ Put (now (line .entry)) (lineFor (refused number place)) r (now (line .exit)) ⌝ }

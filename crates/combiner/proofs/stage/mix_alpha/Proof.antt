@@ -4,14 +4,14 @@ use borrow.Author.Needs.{needs}
 use Rattle.combiner.proofs.stage.mix_alpha.Statement.{statement}
 use Rattle.combiner.proofs.stage.mix_alpha.Tie as tie
 
-alpha-from-requires : tie.Need-alpha-from-requires
-alpha-from-requires c κs = search needs
+alpha-operand-requires : tie.Need-alpha-operand-requires
+alpha-operand-requires c κs = search needs
 
-alpha-from-requires-2 : tie.Need-alpha-from-requires-2
-alpha-from-requires-2 c κs = search needs
+alpha-operand-requires-2 : tie.Need-alpha-operand-requires-2
+alpha-operand-requires-2 c κs = search needs
 
-alpha-from-requires-3 : tie.Need-alpha-from-requires-3
-alpha-from-requires-3 c κs = search needs
+alpha-operand-requires-3 : tie.Need-alpha-operand-requires-3
+alpha-operand-requires-3 c κs = search needs
 
 combine-requires : tie.Need-combine-requires
 combine-requires c κs = search needs
@@ -33,18 +33,18 @@ returns c =
       c .before .factor .ensures .0,
       c .before .before .choose .ensures,
       c .before .before .before .before .combine .ensures,
-      c .before .before .before .before .before .alpha-from3 .ensures,
-      c .before .before .before .before .before .before .alpha-from2 .ensures,
-      c .before .before .before .before .before .before .before .alpha-from .ensures,
+      c .before .before .before .before .before .alpha-operand3 .ensures,
+      c .before .before .before .before .before .before .alpha-operand2 .ensures,
+      c .before .before .before .before .before .before .before .alpha-operand .ensures,
     )
 
 pub mix-alpha-spec : {M : Type 1} → statement M
 mix-alpha-spec =
     tie.close
     (tie.spec
-    alpha-from-requires
-    alpha-from-requires-2
-    alpha-from-requires-3
+    alpha-operand-requires
+    alpha-operand-requires-2
+    alpha-operand-requires-3
     combine-requires
     choose-requires
     factor-requires

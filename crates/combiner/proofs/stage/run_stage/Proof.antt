@@ -4,14 +4,14 @@ use borrow.Author.Needs.{needs}
 use Rattle.combiner.proofs.stage.run_stage.Statement.{statement}
 use Rattle.combiner.proofs.stage.run_stage.Tie as tie
 
-rgb-from-requires : tie.Need-rgb-from-requires
-rgb-from-requires c κs = search needs
+rgb-operand-requires : tie.Need-rgb-operand-requires
+rgb-operand-requires c κs = search needs
 
-rgb-from-requires-2 : tie.Need-rgb-from-requires-2
-rgb-from-requires-2 c κs = search needs
+rgb-operand-requires-2 : tie.Need-rgb-operand-requires-2
+rgb-operand-requires-2 c κs = search needs
 
-rgb-from-requires-3 : tie.Need-rgb-from-requires-3
-rgb-from-requires-3 c κs = search needs
+rgb-operand-requires-3 : tie.Need-rgb-operand-requires-3
+rgb-operand-requires-3 c κs = search needs
 
 dot3-requires : tie.Need-dot3-requires
 dot3-requires c κs = search needs
@@ -29,18 +29,18 @@ returns c =
       c .mix-alpha .ensures,
       c .before .mix-rgb .ensures,
       c .before .before .dot3 .ensures,
-      c .before .before .before .rgb-from3 .ensures,
-      c .before .before .before .before .rgb-from2 .ensures,
-      c .before .before .before .before .before .rgb-from .ensures,
+      c .before .before .before .rgb-operand3 .ensures,
+      c .before .before .before .before .rgb-operand2 .ensures,
+      c .before .before .before .before .before .rgb-operand .ensures,
     )
 
 pub run-stage-spec : {M : Type 1} → statement M
 run-stage-spec =
     tie.close
     (tie.spec
-    rgb-from-requires
-    rgb-from-requires-2
-    rgb-from-requires-3
+    rgb-operand-requires
+    rgb-operand-requires-2
+    rgb-operand-requires-3
     dot3-requires
     mix-rgb-requires
     mix-alpha-requires

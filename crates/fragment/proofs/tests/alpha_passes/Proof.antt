@@ -3,14 +3,11 @@ use borrow.Author.Needs.{needs}
 use Rattle.fragment.proofs.tests.alpha_passes.Statement.{statement}
 use Rattle.fragment.proofs.tests.alpha_passes.Tie as tie
 
-cast-compare : tie.Need-cast-compare
-cast-compare c = search needs
-
-compare-requires : tie.Need-compare-requires
-compare-requires c κs = search needs
+compare-bytes-requires : tie.Need-compare-bytes-requires
+compare-bytes-requires c κs = search needs
 
 returns : tie.Need-returns
-returns c = rw (c .compare .ensures)
+returns c = rw (c .compare-bytes .ensures)
 
 pub alpha-passes-spec : {M : Type 1} → statement M
-alpha-passes-spec = tie.close (tie.spec cast-compare compare-requires returns)
+alpha-passes-spec = tie.close (tie.spec compare-bytes-requires returns)

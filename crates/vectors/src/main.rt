@@ -1,0 +1,15 @@
+// The documents' examples about lists and about packing, run. The file `stdout` beside src/ was written from the documents, and the check compares.
+mod commands;
+mod masks;
+mod packing;
+mod ports;
+mod refusals;
+mod show;
+
+fn main() {
+    commands::all();
+    masks::all();
+    ports::all();
+    refusals::all();
+    packing::all();
+}

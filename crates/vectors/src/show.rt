@@ -1,0 +1,121 @@
+// How a vector is shown: its label with the answer's line, and then what some cells or entries hold after it was read into a state of zeros.
+use libc::STDOUT_FILENO;
+use reader::Verdict;
+use words::Refusal;
+
+fn put(text: &[u8]) {
+    io::write_all(STDOUT_FILENO, text);
+}
+
+fn put_answer(label: &[u8], verdict: Verdict) {
+    let mut line = [0u8; 64];
+    let n = lines::line_for(verdict, &mut line);
+    put(label);
+    put(b": ");
+    put(&line[..n]);
+}
+
+// In hexadecimal, as `  cell 107 = 00001f71`.
+fn put_word(kind: &[u8], at: usize, word: u32) {
+    put(b"  ");
+    put(kind);
+    io::print_hex(STDOUT_FILENO, at as u64, 3);
+    put(b" = ");
+    io::print_hex(STDOUT_FILENO, word as u64, 8);
+    put(b"\n");
+}
+
+fn index(x: u32) -> usize {
+    x as usize
+}
+
+// What a buffer holds at these places.
+fn put_words(kind: &[u8], buffer: &[u32], places: &[u32]) {
+    let mut i: usize = 0;
+    while i < places.len() {
+        let at = index(places[i]);
+        if at < buffer.len() {
+            put_word(kind, at, buffer[at]);
+        }
+        i += 1;
+    }
+}
+
+// A group's heading.
+pub fn group(name: &[u8]) {
+    put(b"-- ");
+    put(name);
+    put(b"\n");
+}
+
+// The answer alone.
+pub fn judged(label: &[u8], list: &[u32]) {
+    put_answer(label, reader::judge_list(list));
+}
+
+// The answer, and the cells of these ids.
+pub fn cells_after(label: &[u8], list: &[u32], ids: &[u32]) {
+    let mut cells = [0u32; 768];
+    let mut fog = [0u32; 128];
+    let mut light = [0u32; 6144];
+    put_answer(label, reader::read(&mut cells, &mut fog, &mut light, list));
+    put_words(b"cell ", &cells, ids);
+}
+
+// The answer, the fog index, and these fog entries.
+pub fn fog_after(label: &[u8], list: &[u32], entries: &[u32]) {
+    let mut cells = [0u32; 768];
+    let mut fog = [0u32; 128];
+    let mut light = [0u32; 6144];
+    put_answer(label, reader::read(&mut cells, &mut fog, &mut light, list));
+    put_words(b"cell ", &cells, &[0xE6]);
+    put_words(b"fog ", &fog, entries);
+}
+
+// The answer, the light index, and these light entries, numbered through all tables.
+pub fn light_after(label: &[u8], list: &[u32], entries: &[u32]) {
+    let mut cells = [0u32; 768];
+    let mut fog = [0u32; 128];
+    let mut light = [0u32; 6144];
+    put_answer(label, reader::read(&mut cells, &mut fog, &mut light, list));
+    put_words(b"cell ", &cells, &[0x1C5]);
+    put_words(b"light ", &light, entries);
+}
+
+fn put_count(label: &[u8], n: usize) {
+    put(label);
+    put(b", ");
+    io::print_decimal(STDOUT_FILENO, n as u64);
+    put(b" writes: ");
+}
+
+// A packed run: its writes and its words.
+pub fn words_of(label: &[u8], n: usize, words: usize) {
+    put_count(label, n);
+    io::print_decimal(STDOUT_FILENO, words as u64);
+    put(b" words\n");
+}
+
+// A run that is refused.
+pub fn refusal_of(label: &[u8], n: usize, why: Refusal) {
+    let mut line = [0u8; 64];
+    put_count(label, n);
+    let k = lines::line_for(Verdict::Refused(why), &mut line);
+    put(&line[..k]);
+}
+
+// The words of a list, in hexadecimal.
+pub fn list_words(list: &[u32]) {
+    put(b" ");
+    let mut i: usize = 0;
+    while i < list.len() {
+        put(b" ");
+        io::print_hex(STDOUT_FILENO, wide(list[i]), 8);
+        i += 1;
+    }
+    put(b"\n");
+}
+
+fn wide(x: u32) -> u64 {
+    x as u64
+}
