@@ -4,7 +4,6 @@ use Prim.Native.Nat.{ℕ}
 use lib.Dec.{eqb}
 use Rattle.numbers.specs.Pick.{pick}
 use Rattle.decode.specs.declared.records.Colour.{Colour}
-use Rattle.decode.specs.declared.records.StencilTest.{StencilTest}
 use Rattle.decode.specs.declared.records.DepthColourMask.{DepthColourMask}
 use Rattle.decode.specs.declared.records.Framebuffer.{Framebuffer}
 use Rattle.fragment.specs.Stencil.{operated, masked}

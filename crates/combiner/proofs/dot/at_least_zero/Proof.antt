@@ -5,7 +5,7 @@ use mir.Val.{toZ, ofZ}
 use mir.Syntax.{w32}
 use lib.Signed.{natAbs-le}
 use native.Mathlib.Omega.{arith}
-use mathlib.Core.Path.{_≡_, _∙_}
+use mathlib.Core.Path.{_≡_}
 use Rattle.combiner.proofs.dot.at_least_zero.Statement.{statement}
 use Rattle.combiner.proofs.dot.at_least_zero.Tie as tie
 

@@ -5,7 +5,7 @@ use Rattle.combiner.specs.Dot.{centred}
 use lib.IntN.{pos, natAbs, _-ℤ_}
 use Prim.Native.Nat.{_*_, _≤_}
 use native.Mathlib.Omega.{arith}
-use mathlib.Core.Path.{_≡_, refl}
+use mathlib.Core.Path.{refl}
 use borrow.Author.Needs.{needs}
 use Rattle.combiner.proofs.dot.centre.Statement.{statement}
 use Rattle.combiner.proofs.dot.centre.Tie as tie

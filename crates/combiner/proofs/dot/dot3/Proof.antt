@@ -4,7 +4,7 @@ use Rattle.combiner.specs.Dot.{dot3Of}
 use lib.IntN.{natAbs, _+ℤ_}
 use native.Mathlib.Omega.{arith}
 use Prim.Native.Nat.{_≤_}
-use mathlib.Core.Path.{_≡_, _∙_}
+use mathlib.Core.Path.{_∙_}
 use borrow.Author.Needs.{needs}
 use Rattle.combiner.proofs.dot.dot3.Statement.{statement}
 use Rattle.combiner.proofs.dot.dot3.Tie as tie

@@ -3,7 +3,6 @@ use Rattle.combiner.proofs.Signed.{fit, back, product}
 use lib.IntN.{natAbs, _*ℤ_}
 use Prim.Native.Nat.{_≤_}
 use native.Mathlib.Omega.{arith}
-use mathlib.Core.Path.{_≡_}
 use borrow.Author.Needs.{needs}
 use Rattle.combiner.proofs.dot.term.Statement.{statement}
 use Rattle.combiner.proofs.dot.term.Tie as tie
