@@ -63,8 +63,10 @@ put-one-requires-2 c κs = search needs
 
 add-j-2 : tie.Need-add-j-2 Inv-loop μ-loop
 add-j-2 c =
-    let a = c .before .before .before .before .before .before .before .before .before .before .before .before .before .before .before .before .before .before .before .before .before .before .before .before .before .before .before .before .before .before in
-    omega (arith, a .fits, a .pre .1 .0, c .before .before .before .before .before .before .before .before .before .before .before .before .loop .inv .3)
+    let at-loop = c .before .before .before .before .before .before .before .before .before .before .before .before in
+    let at-start = at-loop .before .before .before .before .before .before .before .before .before .before .before .before .before .before .before .before .before .before in
+    let a = at-start in
+    omega (arith, a .fits, a .pre .1 .0, at-loop .loop .inv .3)
 
 sub-left : tie.Need-sub-left Inv-loop μ-loop
 sub-left c = search needs
@@ -74,12 +76,17 @@ loop-less c = search needs
 
 loop-again : tie.Need-loop-again Inv-loop μ-loop
 loop-again c =
-    let o = c .before .before .before .before .before .before .before .before .before .before .before .before .loop in
-    let a = c .before .before .before .before .before .before .before .before .before .before .before .before .before .before .before .before .before .before .before .before .before .before .before .before .before .before .before .before .before .before in
+    let at-put-one2 = c .before .before .before .before .before .before in
+    let at-loop-test = at-put-one2 .before .before .before .before .before in
+    let at-loop = at-loop-test .before in
+    let at-spread-mask = at-loop .before .before .before .before .before .before .before .before .before .before .before .before in
+    let at-start = at-spread-mask .before .before .before .before .before .before in
+    let o = at-loop .loop in
+    let a = at-start in
     let l = a .args .list .now in
     let at = a .args .at in
-    let p = c .before .before .before .before .before .before .put-one2 in
-    let t : 0 < o .left = c .before .before .before .before .before .before .before .before .before .before .before .loop-test .taken in
+    let p = at-put-one2 .put-one2 in
+    let t : 0 < o .left = at-loop-test .loop-test .taken in
     let k : o .j + 1 - (at + 1) ≡ o .j - (at + 1) + 1 = omega (arith, o .inv .4) in
     let e : a .args .step ≡ stepOf (headerAt l at) = a .pre .1 .1 in
     let v = param-later l at (o .j - (at + 1)) (o .j) (omega (arith, o .inv .4)) (omega (arith, o .inv .4)) in (
@@ -89,7 +96,7 @@ loop-again c =
       omega (arith, o .inv .3),
       omega (arith, o .inv .4),
       omega (arith, o .inv .5),
-      rw (p .ensures, c .before .before .before .before .before .before .before .before .before .before .before .before .before .before .before .before .before .before .before .before .before .before .before .before .spread-mask .ensures, v, e, k) (sym (run-applies l at (st (o .cells) (o .fog) (o .light)) (o .left) (o .j - (at + 1)) _ t) ∙ o .inv .6),
+      rw (p .ensures, at-spread-mask .spread-mask .ensures, v, e, k) (sym (run-applies l at (st (o .cells) (o .fog) (o .light)) (o .left) (o .j - (at + 1)) _ t) ∙ o .inv .6),
     )
 
 same-length : tie.Need-same-length Inv-loop μ-loop
@@ -103,8 +110,12 @@ same-length-3 c = search needs
 
 returns : tie.Need-returns Inv-loop μ-loop
 returns c =
-    let o = c .before .loop in
-    let a = c .before .before .before .before .before .before .before .before .before .before .before .before .before .before .before .before .before .before .before in
+    let at-loop = c .before in
+    let at-put-one = at-loop .before .before .before .before .before .before .before in
+    let at-spread-mask = at-put-one .before .before .before .before .before in
+    let at-start = at-spread-mask .before .before .before .before .before .before in
+    let o = at-loop .loop in
+    let a = at-start in
     let l = a .args .list .now in
     let at = a .args .at in
     let s = st (a .args .cells .now) (a .args .fog .now) (a .args .light .now) in
@@ -112,7 +123,7 @@ returns c =
     let k : at + 2 - (at + 1) ≡ 0 + 1 = omega arith in
     let e = rw n at (run-applies l at s (countOf (headerAt l at) + 1) 0 (idOf (headerAt l at)) (omega arith)) in
     sym (run-applied l at (st (o .cells) (o .fog) (o .light)) (o .left) (o .j - (at + 1)) (o .id + stepOf (headerAt l at)) (c .loop-test .left))
-    ∙ o .inv .6 ∙ rw (c .before .before .before .before .before .before .before .before .put-one .ensures, c .before .before .before .before .before .before .before .before .before .before .before .before .before .spread-mask .ensures, k) (sym e)
+    ∙ o .inv .6 ∙ rw (at-put-one .put-one .ensures, at-spread-mask .spread-mask .ensures, k) (sym e)
 
 pub apply-command-spec : {M : Type 1} → statement M
 apply-command-spec =

@@ -29,15 +29,21 @@ held-table-requires c κs = search needs
 
 loop-holds : tie.Need-loop-holds Inv-loop μ-loop
 loop-holds c =
-    let a = c .before .before .before .before .before .before in
+    let at-start = c .before .before .before .before .before .before in
+    let a = at-start in
     (search needs, search needs, search needs, search needs, sym (formed-of (a .args .list .now)) ∙ a .pre .3, refl)
 
 apply-at-requires : tie.Need-apply-at-requires Inv-loop μ-loop
 apply-at-requires c κs =
-    let a = c .before .before .before .before .before .before .before .before .before .before .before .before .before in
-    let i = c .before .before .before .before .before .before .loop .inv in
-    let n = full-next (a .args .list .now) (c .before .before .before .before .before .before .loop .at) (c .before .before .before .before .before .loop-test .taken) (i .4) in
-    ((i .0, i .1, i .2, c .before .before .before .before .before .before .before .before .slot-table .ensures, c .before .before .before .before .before .before .before .held-table .ensures), n .0)
+    let at-loop-test = c .before .before .before .before .before in
+    let at-loop = at-loop-test .before in
+    let at-held-table = at-loop .before in
+    let at-slot-table = at-held-table .before in
+    let at-start = at-slot-table .before .before .before .before .before in
+    let a = at-start in
+    let i = at-loop .loop .inv in
+    let n = full-next (a .args .list .now) (at-loop .loop .at) (at-loop-test .loop-test .taken) (i .4) in
+    ((i .0, i .1, i .2, at-slot-table .slot-table .ensures, at-held-table .held-table .ensures), n .0)
 
 add-words-taken : tie.Need-add-words-taken Inv-loop μ-loop
 add-words-taken c = search needs
@@ -47,8 +53,11 @@ mul-words-taken c = search needs
 
 shared-slice-read-words-taken : tie.Need-shared-slice-read-words-taken Inv-loop μ-loop
 shared-slice-read-words-taken c =
-    let a = c .before .before .before .before .before .before .before .before .before .before .before .before .before .before .before .before .before .before .before .before .before in
-    let n = full-next (a .args .list .now) (c .before .before .before .before .before .before .before .before .before .before .before .before .before .before .loop .at) (c .before .before .before .before .before .before .before .before .before .before .before .before .before .loop-test .taken) (c .before .before .before .before .before .before .before .before .before .before .before .before .before .before .loop .inv .4) in
+    let at-loop-test = c .before .before .before .before .before .before .before .before .before .before .before .before .before in
+    let at-loop = at-loop-test .before in
+    let at-start = at-loop .before .before .before .before .before .before .before in
+    let a = at-start in
+    let n = full-next (a .args .list .now) (at-loop .loop .at) (at-loop-test .loop-test .taken) (at-loop .loop .inv .4) in
     omega (arith, n .0)
 
 words-taken-requires : tie.Need-words-taken-requires Inv-loop μ-loop
@@ -62,12 +71,16 @@ loop-less c = search needs
 
 loop-again : tie.Need-loop-again Inv-loop μ-loop
 loop-again c =
-    let a = c .before .before .before .before .before .before .before .before .before .before .before .before .before .before .before .before .before .before .before .before .before .before in
+    let at-apply-at = c .before .before .before .before .before .before .before .before in
+    let at-loop-test = at-apply-at .before .before .before .before .before .before in
+    let at-loop = at-loop-test .before in
+    let at-start = at-loop .before .before .before .before .before .before .before in
+    let a = at-start in
     let l = a .args .list .now in
-    let o = c .before .before .before .before .before .before .before .before .before .before .before .before .before .before .before .loop in
-    let t = c .before .before .before .before .before .before .before .before .before .before .before .before .before .before .loop-test .taken in
+    let o = at-loop .loop in
+    let t = at-loop-test .loop-test .taken in
     let n = full-next l (o .at) t (o .inv .4) in
-    let p = c .before .before .before .before .before .before .before .before .apply-at in
+    let p = at-apply-at .apply-at in
     let e = c .words-taken .ensures .0 in (
       omega (arith, p .kept .0),
       omega (arith, p .kept .1 .0),
@@ -88,9 +101,11 @@ same-length-3 c = search needs
 
 returns : tie.Need-returns Inv-loop μ-loop
 returns c =
-    let a = c .before .before .before .before .before .before .before .before in
+    let at-loop = c .before in
+    let at-start = at-loop .before .before .before .before .before .before .before in
+    let a = at-start in
     let l = a .args .list .now in
-    let o = c .before .loop in
+    let o = at-loop .loop in
     rw (expansion-of l) (sym (join-applied l (o .at) (st (o .cells) (o .fog) (o .light)) (c .loop-test .left)) ∙ o .inv .5)
 
 pub apply-list-spec : {M : Type 1} → statement M

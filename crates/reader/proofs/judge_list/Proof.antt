@@ -56,16 +56,20 @@ enum-told c = search needs
 -- src/lib.rt:52:13
 deciding-requires : tie.Need-deciding-requires Inv-loop μ-loop Inv-commands μ-commands
 deciding-requires c κs =
-    let w = known (c .before) in omega arith
+    let at-h = c .before in
+    let w = known at-h in omega arith
 
 -- src/lib.rt:53:9
 loop-holds : tie.Need-loop-holds Inv-loop μ-loop Inv-commands μ-commands
 loop-holds c =
-    let w = known (c .before .before) in
+    let at-h = c .before .before in
+    let at-commands = at-h .before .before .before .before in
+    let at-start = at-commands .before .before in
+    let w = known at-h in
     let d = c .deciding .ensures in
-    let l = c .before .before .before .before .before .before .before .before .args .list .now in
-    let at = c .before .before .before .before .before .before .commands .at in
-    let h = c .before .before .h .given .0 .0 in
+    let l = at-start .args .list .now in
+    let at = at-commands .commands .at in
+    let h = at-h .h .given .0 .0 in
     let z : c .deciding .result - c .deciding .result ≡ 0 = omega arith in
     let m : c .deciding .result ≤ h .count + 1 = rw d (deciding-most (eqb (h .step) 0) (h .count)) in
     (m, omega arith, rw (z, d, w .step, w .count, w .id) (sym (deciding-fault l at)), omega arith)
@@ -77,7 +81,8 @@ fault-requires c κs = search needs
 -- src/lib.rt:61:13
 add-id : tie.Need-add-id Inv-loop μ-loop Inv-commands μ-commands
 add-id c =
-    let w = known (c .before .before .before .before .before .before .before) in omega arith
+    let at-h = c .before .before .before .before .before .before .before in
+    let w = known at-h in omega arith
 
 -- src/lib.rt:62:13
 sub-left : tie.Need-sub-left Inv-loop μ-loop Inv-commands μ-commands
@@ -90,96 +95,132 @@ loop-less c = search needs
 -- src/lib.rt:53:9
 loop-again : tie.Need-loop-again Inv-loop μ-loop Inv-commands μ-commands
 loop-again c =
-    let o = c .before .before .before .before in
-    let w = known (c .before .before .before .before .before .before .before) in
-    let l = c .before .before .before .before .before .before .before .before .before .before .before .before .before .args .list .now in
-    let at = c .before .before .before .before .before .before .before .before .before .before .before .commands .at in
+    let at-if2 = c .before in
+    let at-fault = at-if2 .before in
+    let at-loop-test = at-fault .before in
+    let at-loop = at-loop-test .before in
+    let at-deciding = at-loop .before in
+    let at-h = at-deciding .before .before in
+    let at-commands = at-h .before .before .before .before in
+    let at-start = at-commands .before .before in
+    let o = at-loop in
+    let w = known at-h in
+    let l = at-start .args .list .now in
+    let at = at-commands .commands .at in
     let left = o .loop .left in
-    let t : 0 < left = c .before .before .before .loop-test .taken in
-    let k : c .before .before .before .before .before .deciding .result - (left - 1) ≡ c .before .before .before .before .before .deciding .result - left + 1 = omega (arith, o .loop .inv .3) in
-    let f : faultOf (o .loop .id) (maskOf (headerAt l at)) ≡ 0 = cc (w .mask, c .before .before .fault .ensures, c .before .if2 .left) in
+    let t : 0 < left = at-loop-test .loop-test .taken in
+    let k : at-deciding .deciding .result - (left - 1) ≡ at-deciding .deciding .result - left + 1 = omega (arith, o .loop .inv .3) in
+    let f : faultOf (o .loop .id) (maskOf (headerAt l at)) ≡ 0 = cc (w .mask, at-fault .fault .ensures, at-if2 .if2 .left) in
     (omega arith, omega arith, rw (k, w .step) (sym (run-good l at left _ (o .loop .id) t f) ∙ o .loop .inv .2), omega arith)
 
 -- src/lib.rt:64:15
 add-n : tie.Need-add-n Inv-loop μ-loop Inv-commands μ-commands
 add-n c =
-    let w = known (c .before .before .before .before .before) in omega arith
+    let at-h = c .before .before .before .before .before in
+    let w = known at-h in omega arith
 
 -- src/lib.rt:64:14
 cast-n : tie.Need-cast-n Inv-loop μ-loop Inv-commands μ-commands
 cast-n c =
-    let w = known (c .before .before .before .before .before) in omega arith
+    let at-h = c .before .before .before .before .before in
+    let w = known at-h in omega arith
 
 -- src/lib.rt:64:9
 add-n-2 : tie.Need-add-n-2 Inv-loop μ-loop Inv-commands μ-commands
 add-n-2 c =
-    let w = known (c .before .before .before .before .before) in omega arith
+    let at-h = c .before .before .before .before .before in
+    let w = known at-h in omega arith
 
 -- src/lib.rt:65:16
 add-at : tie.Need-add-at Inv-loop μ-loop Inv-commands μ-commands
 add-at c =
-    let w = known (c .before .before .before .before .before .before) in omega arith
+    let at-h = c .before .before .before .before .before .before in
+    let w = known at-h in omega arith
 
 -- src/lib.rt:65:31
 add-at-2 : tie.Need-add-at-2 Inv-loop μ-loop Inv-commands μ-commands
 add-at-2 c =
-    let w = known (c .before .before .before .before .before .before .before) in omega arith
+    let at-h = c .before .before .before .before .before .before .before in
+    let w = known at-h in omega arith
 
 -- src/lib.rt:65:16
 add-at-3 : tie.Need-add-at-3 Inv-loop μ-loop Inv-commands μ-commands
 add-at-3 c =
-    let w = known (c .before .before .before .before .before .before .before) in omega arith
+    let at-h = c .before .before .before .before .before .before .before in
+    let w = known at-h in omega arith
 
 -- src/lib.rt:65:15
 cast-at : tie.Need-cast-at Inv-loop μ-loop Inv-commands μ-commands
 cast-at c =
-    let w = known (c .before .before .before .before .before .before .before) in omega arith
+    let at-h = c .before .before .before .before .before .before .before in
+    let w = known at-h in omega arith
 
 -- src/lib.rt:65:9
 add-at-4 : tie.Need-add-at-4 Inv-loop μ-loop Inv-commands μ-commands
 add-at-4 c =
-    let w = known (c .before .before .before .before .before .before .before) in omega arith
+    let at-h = c .before .before .before .before .before .before .before in
+    let w = known at-h in omega arith
 
 -- src/lib.rt:41:5
 commands-less : tie.Need-commands-less Inv-loop μ-loop Inv-commands μ-commands
 commands-less c =
-    let w = known (c .before .before .before .before .before .before .before) in omega arith
+    let at-h = c .before .before .before .before .before .before .before in
+    let w = known at-h in omega arith
 
 -- src/lib.rt:41:5
 commands-again : tie.Need-commands-again Inv-loop μ-loop Inv-commands μ-commands
 commands-again c =
-    let o = c .before .before .before .before in
-    let w = known (c .before .before .before .before .before .before .before) in
-    let l = c .before .before .before .before .before .before .before .before .before .before .before .before .before .args .list .now in
-    let at = c .before .before .before .before .before .before .before .before .before .before .before .commands .at in
-    let e : firstFault (expand l at) ≡ 0 = sym (o .loop .inv .2) ∙ run-none l at (o .loop .left) _ (o .loop .id) (c .before .before .before .loop-test .left) in
-    (omega arith, omega arith, rw (w .count) (sym (judge-pass l at (c .before .before .before .before .before .before .before .before .before .before .before .commands .n) (c .before .before .before .before .before .before .before .before .before .before .if1 .left) (w .fits) e) ∙ c .before .before .before .before .before .before .before .before .before .before .before .commands .inv .2))
+    let at-loop-test = c .before .before .before in
+    let at-loop = at-loop-test .before in
+    let at-h = at-loop .before .before .before in
+    let at-if1 = at-h .before .before .before in
+    let at-commands = at-if1 .before in
+    let at-start = at-commands .before .before in
+    let o = at-loop in
+    let w = known at-h in
+    let l = at-start .args .list .now in
+    let at = at-commands .commands .at in
+    let e : firstFault (expand l at) ≡ 0 = sym (o .loop .inv .2) ∙ run-none l at (o .loop .left) _ (o .loop .id) (at-loop-test .loop-test .left) in
+    (omega arith, omega arith, rw (w .count) (sym (judge-pass l at (at-commands .commands .n) (at-if1 .if1 .left) (w .fits) e) ∙ at-commands .commands .inv .2))
 
 -- src/lib.rt:36:1
 returns : tie.Need-returns Inv-loop μ-loop Inv-commands μ-commands
 returns c =
-    let l = c .before .before .before .args .list .now in
-    sym (judge-end l (c .before .commands .at) (c .before .commands .n) (c .if1 .taken)) ∙ c .before .commands .inv .2
+    let at-commands = c .before in
+    let at-start = at-commands .before .before in
+    let l = at-start .args .list .now in
+    sym (judge-end l (at-commands .commands .at) (at-commands .commands .n) (c .if1 .taken)) ∙ at-commands .commands .inv .2
 
 -- src/lib.rt:36:1
 returns-2 : tie.Need-returns-2 Inv-loop μ-loop Inv-commands μ-commands
 returns-2 c =
-    let l = c .before .before .before .before .before .before .args .list .now in
-    let at = c .before .before .before .before .commands .at in
-    let s = short-of l at _ (sym (c .before .before .head-at .ensures) ∙ c .enum-told .given .1) in
-    sym (judge-short l at (c .before .before .before .before .commands .n) (c .before .before .before .if1 .left) s) ∙ c .before .before .before .before .commands .inv .2
+    let at-head-at = c .before .before in
+    let at-if1 = at-head-at .before in
+    let at-commands = at-if1 .before in
+    let at-start = at-commands .before .before in
+    let l = at-start .args .list .now in
+    let at = at-commands .commands .at in
+    let s = short-of l at _ (sym (at-head-at .head-at .ensures) ∙ c .enum-told .given .1) in
+    sym (judge-short l at (at-commands .commands .n) (at-if1 .if1 .left) s) ∙ at-commands .commands .inv .2
 
 -- src/lib.rt:36:1
 returns-3 : tie.Need-returns-3 Inv-loop μ-loop Inv-commands μ-commands
 returns-3 c =
-    let o = c .before .before .before in
-    let w = known (c .before .before .before .before .before .before) in
-    let l = c .before .before .before .before .before .before .before .before .before .before .before .before .args .list .now in
-    let at = c .before .before .before .before .before .before .before .before .before .before .commands .at in
-    let f : c .before .fault .result ≡ faultOf (o .loop .id) (maskOf (headerAt l at)) = cc (w .mask, c .before .fault .ensures) in
-    let e : firstFault (expand l at) ≡ c .before .fault .result =
-    sym (o .loop .inv .2) ∙ run-bad l at (o .loop .left) _ (o .loop .id) (c .before .before .loop-test .taken) (λ z. c .if2 .taken (f ∙ z)) ∙ sym f in
-    sym (judge-fault l at (c .before .before .before .before .before .before .before .before .before .before .commands .n) _ (c .before .before .before .before .before .before .before .before .before .if1 .left) (w .fits) e (c .if2 .taken)) ∙ c .before .before .before .before .before .before .before .before .before .before .commands .inv .2
+    let at-fault = c .before in
+    let at-loop-test = at-fault .before in
+    let at-loop = at-loop-test .before in
+    let at-h = at-loop .before .before .before in
+    let at-if1 = at-h .before .before .before in
+    let at-commands = at-if1 .before in
+    let at-start = at-commands .before .before in
+    let o = at-loop in
+    let w = known at-h in
+    let l = at-start .args .list .now in
+    let at = at-commands .commands .at in
+    let f : at-fault .fault .result ≡ faultOf (o .loop .id) (maskOf (headerAt l at)) = cc (w .mask, at-fault .fault .ensures) in
+    let e : firstFault (expand l at) ≡ at-fault .fault .result =
+    sym (o .loop .inv .2) ∙ run-bad l at (o .loop .left) _ (o .loop .id) (at-loop-test .loop-test .taken) (λ z. c .if2 .taken (f ∙ z)) ∙ sym f in
+    sym (judge-fault l at (at-commands .commands .n) _ (at-if1 .if1 .left) (w .fits) e (c .if2 .taken)) ∙ at-commands .commands .inv .2
 
 pub judge-list-spec : {M : Type 1} → statement M
 judge-list-spec =

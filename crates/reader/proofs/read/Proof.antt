@@ -24,9 +24,11 @@ same-length-3 c = search needs
 
 returns : tie.Need-returns
 returns c =
-    let a = c .before .before .before .before .before .before .before .before .before .args in
+    let at-is-sized = c .before in
+    let at-start = at-is-sized .before .before .before .before .before .before .before .before in
+    let a = at-start .args in
     let s = st (a .cells .now) (a .fog .now) (a .light .now) in
-    let r = wrong-lengths s (a .list .now) (sym (c .before .is-sized .ensures) ∙ not-true _ (c .if1 .taken)) in
+    let r = wrong-lengths s (a .list .now) (sym (at-is-sized .is-sized .ensures) ∙ not-true _ (c .if1 .taken)) in
     (r .answer, r .state)
 
 same-length-4 : tie.Need-same-length-4
@@ -40,9 +42,12 @@ same-length-6 c = search needs
 
 returns-2 : tie.Need-returns-2
 returns-2 c =
-    let a = c .before .before .before .before .before .before .before .before .before .before .args in
+    let at-if1 = c .before in
+    let at-is-sized = at-if1 .before in
+    let at-start = at-is-sized .before .before .before .before .before .before .before .before in
+    let a = at-start .args in
     let s = st (a .cells .now) (a .fog .now) (a .light .now) in
-    let r = too-long s (a .list .now) (sym (c .before .before .is-sized .ensures) ∙ not-false _ (c .before .if1 .left)) (c .if2 .taken) in
+    let r = too-long s (a .list .now) (sym (at-is-sized .is-sized .ensures) ∙ not-false _ (at-if1 .if1 .left)) (c .if2 .taken) in
     (r .answer, r .state)
 
 judge-list-requires : tie.Need-judge-list-requires
@@ -65,19 +70,29 @@ same-length-9 c = search needs
 
 returns-3 : tie.Need-returns-3
 returns-3 c =
-    let a = c .before .before .before .before .before .before .before .before .before .before .before .before .before .args in
+    let at-judge-list = c .before .before in
+    let at-if2 = at-judge-list .before in
+    let at-if1 = at-if2 .before in
+    let at-is-sized = at-if1 .before in
+    let at-start = at-is-sized .before .before .before .before .before .before .before .before in
+    let a = at-start .args in
     let s = st (a .cells .now) (a .fog .now) (a .light .now) in
-    let k = sym (c .before .before .before .before .before .is-sized .ensures) ∙ not-false _ (c .before .before .before .before .if1 .left) in
-    let v = sym (c .before .before .judge-list .ensures) ∙ ap told (c .enum-told .given .1) in
-    let r = list-refused s (a .list .now) k (c .before .before .before .if2 .left) _ _ v in
-    (c .before .before .judge-list .ensures ∙ v ∙ r .answer, r .state)
+    let k = sym (at-is-sized .is-sized .ensures) ∙ not-false _ (at-if1 .if1 .left) in
+    let v = sym (at-judge-list .judge-list .ensures) ∙ ap told (c .enum-told .given .1) in
+    let r = list-refused s (a .list .now) k (at-if2 .if2 .left) _ _ v in
+    (at-judge-list .judge-list .ensures ∙ v ∙ r .answer, r .state)
 
 apply-list-requires : tie.Need-apply-list-requires
 apply-list-requires c κs =
-    let a = c .before .before .before .before .before .before .before .before .before .before .before .before .before .before .before .before .before .args in
+    let at-verdict = c .before .before .before .before in
+    let at-judge-list = at-verdict .before .before in
+    let at-if1 = at-judge-list .before .before in
+    let at-is-sized = at-if1 .before in
+    let at-start = at-is-sized .before .before .before .before .before .before .before .before in
+    let a = at-start .args in
     let s = st (a .cells .now) (a .fog .now) (a .light .now) in
-    let k = lengths s (sym (c .before .before .before .before .before .before .before .before .before .is-sized .ensures) ∙ not-false _ (c .before .before .before .before .before .before .before .before .if1 .left)) in
-    let v = sym (c .before .before .before .before .before .before .judge-list .ensures) ∙ ap told (c .before .before .before .before .verdict .given .1) in
+    let k = lengths s (sym (at-is-sized .is-sized .ensures) ∙ not-false _ (at-if1 .if1 .left)) in
+    let v = sym (at-judge-list .judge-list .ensures) ∙ ap told (at-verdict .verdict .given .1) in
     (k .0, k .1, k .2, verdict-accepted (a .list .now) _ v .0)
 
 same-length-10 : tie.Need-same-length-10
@@ -91,12 +106,19 @@ same-length-12 c = search needs
 
 returns-4 : tie.Need-returns-4
 returns-4 c =
-    let a = c .before .before .before .before .before .before .before .before .before .before .before .before .before .before .before .before .before .before .before .before .before .before .before .before .args in
+    let at-apply-list = c .before .before .before .before .before .before in
+    let at-verdict = at-apply-list .before .before .before .before .before in
+    let at-judge-list = at-verdict .before .before in
+    let at-if2 = at-judge-list .before in
+    let at-if1 = at-if2 .before in
+    let at-is-sized = at-if1 .before in
+    let at-start = at-is-sized .before .before .before .before .before .before .before .before in
+    let a = at-start .args in
     let s = st (a .cells .now) (a .fog .now) (a .light .now) in
-    let k = sym (c .before .before .before .before .before .before .before .before .before .before .before .before .before .before .before .before .is-sized .ensures) ∙ not-false _ (c .before .before .before .before .before .before .before .before .before .before .before .before .before .before .before .if1 .left) in
-    let v = sym (c .before .before .before .before .before .before .before .before .before .before .before .before .before .judge-list .ensures) ∙ ap told (c .before .before .before .before .before .before .before .before .before .before .before .verdict .given .1) in
-    let r = list-accepted s (a .list .now) k (c .before .before .before .before .before .before .before .before .before .before .before .before .before .before .if2 .left) _ v in
-    (r .answer, c .before .before .before .before .before .before .apply-list .ensures ∙ r .state)
+    let k = sym (at-is-sized .is-sized .ensures) ∙ not-false _ (at-if1 .if1 .left) in
+    let v = sym (at-judge-list .judge-list .ensures) ∙ ap told (at-verdict .verdict .given .1) in
+    let r = list-accepted s (a .list .now) k (at-if2 .if2 .left) _ v in
+    (r .answer, at-apply-list .apply-list .ensures ∙ r .state)
 
 pub read-spec : {M : Type 1} → statement M
 read-spec =

@@ -49,7 +49,10 @@ mul-merged c = search needs
 
 slice-read-merged : tie.Need-slice-read-merged
 slice-read-merged c =
-    let i = row-has (c .before .before .before .before .before .before .before .before .before .before .before .args .id) (test (c .before .before .before) ∙ c .before .before .if1 .taken) .small in omega arith
+    let at-if1 = c .before .before in
+    let at-is-row-of = at-if1 .before in
+    let at-start = at-is-row-of .before .before .before .before .before .before .before .before in
+    let i = row-has (at-start .args .id) (test at-is-row-of ∙ at-if1 .if1 .taken) .small in omega arith
 
 merged-requires : tie.Need-merged-requires
 merged-requires c κs = search needs
@@ -59,16 +62,24 @@ mul-cells c = search needs
 
 slice-write-cells : tie.Need-slice-write-cells
 slice-write-cells c =
-    let i = row-has (c .before .before .before .before .before .before .before .before .before .before .before .before .args .id) (test (c .before .before .before .before) ∙ c .before .before .before .if1 .taken) .small in omega arith
+    let at-if1 = c .before .before .before in
+    let at-is-row-of = at-if1 .before in
+    let at-start = at-is-row-of .before .before .before .before .before .before .before .before in
+    let i = row-has (at-start .args .id) (test at-is-row-of ∙ at-if1 .if1 .taken) .small in omega arith
 
 same-length : tie.Need-same-length
 same-length c = search needs
 
 returns : tie.Need-returns
 returns c =
-    let a = c .before .before .before .before .before .before .before .before .before .before .before .before in
-    let h = test (c .before .before .before .before) ∙ c .before .before .before .if1 .taken in
-    rw (put-held _ (a .args .id) (a .args .bytes) (a .args .value) h, c .merged .ensures, c .before .before .bits-of .ensures, a .pre .4, slot-of (c .before .before .before .before .before .before))
+    let at-bits-of = c .before .before in
+    let at-if1 = at-bits-of .before in
+    let at-is-row-of = at-if1 .before in
+    let at-wide = at-is-row-of .before .before in
+    let at-start = at-wide .before .before .before .before .before .before in
+    let a = at-start in
+    let h = test at-is-row-of ∙ at-if1 .if1 .taken in
+    rw (put-held _ (a .args .id) (a .args .bytes) (a .args .value) h, c .merged .ensures, at-bits-of .bits-of .ensures, a .pre .4, slot-of at-wide)
 
 put-fog-requires : tie.Need-put-fog-requires
 put-fog-requires c κs = search needs
@@ -81,7 +92,9 @@ same-length-3 c = search needs
 
 returns-2 : tie.Need-returns-2
 returns-2 c =
-    rw (put-fog-data _ _ _ _ (c .before .before .before .before .before .before .before .if2 .taken), c .before .before .before .before .put-fog .ensures .0, c .before .before .before .before .put-fog .ensures .1)
+    let at-put-fog = c .before .before .before .before in
+    let at-if2 = at-put-fog .before .before .before in
+    rw (put-fog-data _ _ _ _ (at-if2 .if2 .taken), at-put-fog .put-fog .ensures .0, at-put-fog .put-fog .ensures .1)
 
 put-light-requires : tie.Need-put-light-requires
 put-light-requires c κs = search needs
@@ -94,13 +107,20 @@ same-length-5 c = search needs
 
 returns-3 : tie.Need-returns-3
 returns-3 c =
-    rw (put-light-data _ _ _ _ (c .before .before .before .before .before .before .before .before .if2 .left) (c .before .before .before .before .before .before .before .if3 .taken), c .before .before .before .before .put-light .ensures .0, c .before .before .before .before .put-light .ensures .1)
+    let at-put-light = c .before .before .before .before in
+    let at-if3 = at-put-light .before .before .before in
+    let at-if2 = at-if3 .before in
+    rw (put-light-data _ _ _ _ (at-if2 .if2 .left) (at-if3 .if3 .taken), at-put-light .put-light .ensures .0, at-put-light .put-light .ensures .1)
 
 returns-4 : tie.Need-returns-4
 returns-4 c =
-    let a = c .before .before .before .before .before .before .before .before .before .before .before in
-    let h = row-none (a .args .id) (test (c .before .before .before) ∙ c .before .before .if1 .left) in
-    sym (put-free _ (a .args .id) (a .args .bytes) (a .args .value) (c .before .if2 .left) (c .if3 .left) h)
+    let at-if2 = c .before in
+    let at-if1 = at-if2 .before in
+    let at-is-row-of = at-if1 .before in
+    let at-start = at-is-row-of .before .before .before .before .before .before .before .before in
+    let a = at-start in
+    let h = row-none (a .args .id) (test at-is-row-of ∙ at-if1 .if1 .left) in
+    sym (put-free _ (a .args .id) (a .args .bytes) (a .args .value) (at-if2 .if2 .left) (c .if3 .left) h)
 
 pub put-one-spec : {M : Type 1} → statement M
 put-one-spec =

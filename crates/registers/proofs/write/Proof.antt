@@ -24,10 +24,12 @@ same-length-3 c = search needs
 
 returns : tie.Need-returns
 returns c =
-    let a = c .before .before .before .before .before .before .before .before .args in
+    let at-is-sized = c .before in
+    let at-start = at-is-sized .before .before .before .before .before .before .before in
+    let a = at-start .args in
     let s = st (a .cells .now) (a .fog .now) (a .light .now) in
     let w = writing (a .id) (a .mask) (a .value) in
-    write-refused s w 6 (λ z. omega arith) (length-refusal s w (sym (c .before .is-sized .ensures) ∙ not-true _ (c .if1 .taken)))
+    write-refused s w 6 (λ z. omega arith) (length-refusal s w (sym (at-is-sized .is-sized .ensures) ∙ not-true _ (c .if1 .taken)))
 
 same-length-4 : tie.Need-same-length-4
 same-length-4 c = search needs
@@ -40,10 +42,13 @@ same-length-6 c = search needs
 
 returns-2 : tie.Need-returns-2
 returns-2 c =
-    let a = c .before .before .before .before .before .before .before .before .before .args in
+    let at-if1 = c .before in
+    let at-is-sized = at-if1 .before in
+    let at-start = at-is-sized .before .before .before .before .before .before .before in
+    let a = at-start .args in
     let s = st (a .cells .now) (a .fog .now) (a .light .now) in
     let w = writing (a .id) (a .mask) (a .value) in
-    let k = sym (c .before .before .is-sized .ensures) ∙ not-false _ (c .before .if1 .left) in
+    let k = sym (at-is-sized .is-sized .ensures) ∙ not-false _ (at-if1 .if1 .left) in
     write-refused s w 9 (λ z. omega arith) (mask-refusal s w k (c .if2 .taken))
 
 fault-requires : tie.Need-fault-requires
@@ -60,11 +65,16 @@ same-length-9 c = search needs
 
 returns-3 : tie.Need-returns-3
 returns-3 c =
-    let a = c .before .before .before .before .before .before .before .before .before .before .before .args in
+    let at-fault = c .before in
+    let at-if2 = at-fault .before in
+    let at-if1 = at-if2 .before in
+    let at-is-sized = at-if1 .before in
+    let at-start = at-is-sized .before .before .before .before .before .before .before in
+    let a = at-start .args in
     let s = st (a .cells .now) (a .fog .now) (a .light .now) in
     let w = writing (a .id) (a .mask) (a .value) in
-    let k = sym (c .before .before .before .before .is-sized .ensures) ∙ not-false _ (c .before .before .before .if1 .left) in
-    write-refused s w _ (c .if3 .taken) (fault-refusal s w k (c .before .before .if2 .left) ∙ sym (c .before .fault .ensures))
+    let k = sym (at-is-sized .is-sized .ensures) ∙ not-false _ (at-if1 .if1 .left) in
+    write-refused s w _ (c .if3 .taken) (fault-refusal s w k (at-if2 .if2 .left) ∙ sym (at-fault .fault .ensures))
 
 slot-table-requires : tie.Need-slot-table-requires
 slot-table-requires c κs = search needs
@@ -77,10 +87,15 @@ spread-mask-requires c κs = search needs
 
 put-one-requires : tie.Need-put-one-requires
 put-one-requires c κs =
-    let a = c .before .before .before .before .before .before .before .before .before .before .before .before .before .before .before .before .before .before .before .args in
+    let at-held-table = c .before .before .before .before .before .before in
+    let at-slot-table = at-held-table .before in
+    let at-if1 = at-slot-table .before .before .before .before in
+    let at-is-sized = at-if1 .before in
+    let at-start = at-is-sized .before .before .before .before .before .before .before in
+    let a = at-start .args in
     let s = st (a .cells .now) (a .fog .now) (a .light .now) in
-    let k = lengths s (sym (c .before .before .before .before .before .before .before .before .before .before .before .before .is-sized .ensures) ∙ not-false _ (c .before .before .before .before .before .before .before .before .before .before .before .if1 .left)) in
-    (k .0, k .1, k .2, c .before .before .before .before .before .before .before .slot-table .ensures, c .before .before .before .before .before .before .held-table .ensures)
+    let k = lengths s (sym (at-is-sized .is-sized .ensures) ∙ not-false _ (at-if1 .if1 .left)) in
+    (k .0, k .1, k .2, at-slot-table .slot-table .ensures, at-held-table .held-table .ensures)
 
 same-length-10 : tie.Need-same-length-10
 same-length-10 c = search needs
@@ -93,12 +108,20 @@ same-length-12 c = search needs
 
 returns-4 : tie.Need-returns-4
 returns-4 c =
-    let a = c .before .before .before .before .before .before .before .before .before .before .before .before .before .before .before .before .before .before .before .before .before .before .before .before .before .before .args in
+    let at-put-one = c .before .before .before .before .before .before in
+    let at-spread-mask = at-put-one .before in
+    let at-if3 = at-spread-mask .before .before .before .before .before .before .before .before in
+    let at-fault = at-if3 .before in
+    let at-if2 = at-fault .before in
+    let at-if1 = at-if2 .before in
+    let at-is-sized = at-if1 .before in
+    let at-start = at-is-sized .before .before .before .before .before .before .before in
+    let a = at-start .args in
     let s = st (a .cells .now) (a .fog .now) (a .light .now) in
     let w = writing (a .id) (a .mask) (a .value) in
-    let k = sym (c .before .before .before .before .before .before .before .before .before .before .before .before .before .before .before .before .before .before .before .is-sized .ensures) ∙ not-false _ (c .before .before .before .before .before .before .before .before .before .before .before .before .before .before .before .before .before .before .if1 .left) in
-    let d = write-done s w (fault-refusal s w k (c .before .before .before .before .before .before .before .before .before .before .before .before .before .before .before .before .before .if2 .left) ∙ sym (c .before .before .before .before .before .before .before .before .before .before .before .before .before .before .before .before .fault .ensures) ∙ c .before .before .before .before .before .before .before .before .before .before .before .before .before .before .before .if3 .left) in
-    (d .0, rw (c .before .before .before .before .before .before .before .spread-mask .ensures) at (c .before .before .before .before .before .before .put-one .ensures) ∙ d .1)
+    let k = sym (at-is-sized .is-sized .ensures) ∙ not-false _ (at-if1 .if1 .left) in
+    let d = write-done s w (fault-refusal s w k (at-if2 .if2 .left) ∙ sym (at-fault .fault .ensures) ∙ at-if3 .if3 .left) in
+    (d .0, rw (at-spread-mask .spread-mask .ensures) at (at-put-one .put-one .ensures) ∙ d .1)
 
 pub write-spec : {M : Type 1} → statement M
 write-spec =
