@@ -14,9 +14,9 @@ use Rattle.cuts.specs.Cuts.{table, sizesFrom}
 use Rattle.runs.specs.Span.{chain, span}
 use Rattle.runs.specs.Packed.{packed}
 use Rattle.combiner.specs.Modes.{combined}
-use Rattle.combiner.specs.Dot.{centred, clamped, dot3Of}
+use Rattle.combiner.specs.Dot.{centred, atLeastZero, dot3Of}
 use Rattle.demands.specs.Cases.{Case, cases}
 
 pub examples : map (λ (c : Case). c .got) cases ≡ map (λ (c : Case). c .want) cases
-unfolding cases faultOf run places commands join expansion held bitsIn bitsOf fogCells fogEntries cellsAfter put applyAll firstFault judge verdict firstWords lineOf digits decimal signed table sizesFrom chain span packed combined centred clamped dot3Of
+unfolding cases faultOf run places commands join expansion held bitsIn bitsOf fogCells fogEntries cellsAfter put applyAll firstFault judge verdict firstWords lineOf digits decimal signed table sizesFrom chain span packed combined centred atLeastZero dot3Of
 examples = refl
