@@ -1,0 +1,105 @@
+use mathlib.Core.Path.{refl}
+use mathlib.Core.List.{List, _++_}
+use Prim.Native.Nat.{ℕ}
+use lib.ListN.{take}
+use Rattle.capi.proofs.Laid.{first, more}
+use Rattle.decode.specs.Flat.{blendingWords, testsWords, buffersWords, lightPortWords}
+use borrow.Author.Needs.{needs}
+use Rattle.capi.proofs.fields.lay_to_1c5.Statement.{statement}
+use Rattle.capi.proofs.fields.lay_to_1c5.Tie as tie
+use Rattle.capi.proofs.fields.lay_to_1c5.Reads as reads
+use Rattle.capi.proofs.fields.lay_to_1c5.Lts as lts
+use Rattle.capi.proofs.fields.blending_words.Reads as blending-words-reads
+use Rattle.capi.proofs.fields.buffers_words.Reads as buffers-words-reads
+use Rattle.capi.proofs.fields.lay.Reads as lay-reads
+use Rattle.capi.proofs.fields.light_port_words.Reads as light-port-words-reads
+use Rattle.capi.proofs.fields.tests_words.Reads as tests-words-reads
+
+-- src/fields.rt:239:20
+blending-words-requires : tie.Need-blending-words-requires
+blending-words-requires c κs = search needs
+
+-- src/fields.rt:240:22
+slice-aggregate-lay : tie.Need-slice-aggregate-lay
+slice-aggregate-lay c = search needs
+
+-- src/fields.rt:240:5
+lay-requires : tie.Need-lay-requires
+lay-requires c κs = search needs
+
+-- src/fields.rt:241:17
+tests-words-requires : tie.Need-tests-words-requires
+tests-words-requires c κs = search needs
+
+-- src/fields.rt:242:22
+slice-aggregate-lay-2 : tie.Need-slice-aggregate-lay-2
+slice-aggregate-lay-2 c = search needs
+
+-- src/fields.rt:242:5
+lay-requires-2 : tie.Need-lay-requires-2
+lay-requires-2 c κs = search needs
+
+-- src/fields.rt:243:19
+buffers-words-requires : tie.Need-buffers-words-requires
+buffers-words-requires c κs = search needs
+
+-- src/fields.rt:244:22
+slice-aggregate-lay-3 : tie.Need-slice-aggregate-lay-3
+slice-aggregate-lay-3 c = search needs
+
+-- src/fields.rt:244:5
+lay-requires-3 : tie.Need-lay-requires-3
+lay-requires-3 c κs = search needs
+
+-- src/fields.rt:245:16
+light-port-words-requires : tie.Need-light-port-words-requires
+light-port-words-requires c κs = search needs
+
+-- src/fields.rt:246:22
+slice-aggregate-lay-4 : tie.Need-slice-aggregate-lay-4
+slice-aggregate-lay-4 c = search needs
+
+-- src/fields.rt:246:5
+lay-requires-4 : tie.Need-lay-requires-4
+lay-requires-4 c κs = search needs
+
+-- src/fields.rt:235:1
+same-length : tie.Need-same-length
+same-length c = search needs
+
+-- src/fields.rt:235:1
+returns : tie.Need-returns
+returns c =
+    let a = c .before .before .before .before .before .before .before .before .before .before .before .before .before .before .before .before .before .before .before .before .before .before .before .before .before .args in
+    let old = a .fields .now in
+    let w0 : List ℕ = blendingWords (a .framebuffer .blending) in
+    let to175 = c .before .before .before .before .before .before .before .before .before .before .before .before .before .before .before .before .before .before .before .before .lay .last .0 in
+    let front = take 160 old in
+    let at175 = first w0 old (c .before .before .before .before .before .before .before .before .before .before .before .before .before .before .before .before .before .before .before .before .before .before .before .blending-words .result) to175 160 175 (c .before .before .before .before .before .before .before .before .before .before .before .before .before .before .before .before .before .before .before .before .lay .ensures) (c .before .before .before .before .before .before .before .before .before .before .before .before .before .before .before .before .before .before .before .before .before .before .before .blending-words .ensures) refl in
+    let w1 : List ℕ = testsWords (a .framebuffer .tests) in
+    let to193 = c .before .before .before .before .before .before .before .before .before .before .before .before .before .before .lay2 .last .0 in
+    let at193 = more front w0 w1 to175 (c .before .before .before .before .before .before .before .before .before .before .before .before .before .before .before .before .before .tests-words .result) to193 175 193 at175 (c .before .before .before .before .before .before .before .before .before .before .before .before .before .before .lay2 .ensures) (c .before .before .before .before .before .before .before .before .before .before .before .before .before .before .before .before .before .tests-words .ensures) refl in
+    let w2 : List ℕ = buffersWords (a .framebuffer .buffers) in
+    let to202 = c .before .before .before .before .before .before .before .before .lay3 .last .0 in
+    let at202 = more front (w0 ++ w1) w2 to193 (c .before .before .before .before .before .before .before .before .before .before .before .buffers-words .result) to202 193 202 at193 (c .before .before .before .before .before .before .before .before .lay3 .ensures) (c .before .before .before .before .before .before .before .before .before .before .before .buffers-words .ensures) refl in
+    let w3 : List ℕ = lightPortWords (a .port) in
+    more front ((w0 ++ w1) ++ w2) w3 to202 (c .before .before .before .before .before .light-port-words .result) (c .before .before .lay4 .last .0) 202 204 at202 (c .before .before .lay4 .ensures) (c .before .before .before .before .before .light-port-words .ensures) refl
+
+pub lay-to-1c5-spec : {M : Type 1} → statement M
+lay-to-1c5-spec =
+    tie.close
+    (tie.spec
+    blending-words-requires
+    slice-aggregate-lay
+    lay-requires
+    tests-words-requires
+    slice-aggregate-lay-2
+    lay-requires-2
+    buffers-words-requires
+    slice-aggregate-lay-3
+    lay-requires-3
+    light-port-words-requires
+    slice-aggregate-lay-4
+    lay-requires-4
+    same-length
+    returns)

@@ -1,0 +1,81 @@
+use mathlib.Core.Path.{refl}
+use mathlib.Core.List.{List, _++_}
+use Prim.Native.Nat.{ℕ}
+use lib.ListN.{take}
+use Rattle.capi.proofs.Laid.{first, more}
+use Rattle.decode.specs.Flat.{rasteriserWords, stageWords}
+use borrow.Author.Needs.{needs}
+use Rattle.capi.proofs.fields.lay_to_dc.Statement.{statement}
+use Rattle.capi.proofs.fields.lay_to_dc.Tie as tie
+use Rattle.capi.proofs.fields.lay_to_dc.Reads as reads
+use Rattle.capi.proofs.fields.lay_to_dc.Lts as lts
+use Rattle.capi.proofs.fields.lay.Reads as lay-reads
+use Rattle.capi.proofs.fields.lay_stage.Reads as lay-stage-reads
+use Rattle.capi.proofs.fields.rasteriser_words.Reads as rasteriser-words-reads
+
+-- src/fields.rt:213:14
+rasteriser-words-requires : tie.Need-rasteriser-words-requires
+rasteriser-words-requires c κs = search needs
+
+-- src/fields.rt:214:20
+slice-aggregate-lay : tie.Need-slice-aggregate-lay
+slice-aggregate-lay c = search needs
+
+-- src/fields.rt:214:5
+lay-requires : tie.Need-lay-requires
+lay-requires c κs = search needs
+
+-- src/fields.rt:215:5
+lay-stage-requires : tie.Need-lay-stage-requires
+lay-stage-requires c κs = search needs
+
+-- src/fields.rt:216:5
+lay-stage-requires-2 : tie.Need-lay-stage-requires-2
+lay-stage-requires-2 c κs = search needs
+
+-- src/fields.rt:217:5
+lay-stage-requires-3 : tie.Need-lay-stage-requires-3
+lay-stage-requires-3 c κs = search needs
+
+-- src/fields.rt:218:5
+lay-stage-requires-4 : tie.Need-lay-stage-requires-4
+lay-stage-requires-4 c κs = search needs
+
+-- src/fields.rt:209:1
+same-length : tie.Need-same-length
+same-length c = search needs
+
+-- src/fields.rt:209:1
+returns : tie.Need-returns
+returns c =
+    let a = c .before .before .before .before .before .before .before .before .before .before .before .before .before .before .before .before .before .before .before .before .before .before .before .args in
+    let old = a .fields .now in
+    let w0 : List ℕ = rasteriserWords (a .rasteriser) in
+    let to20 = c .before .before .before .before .before .before .before .before .before .before .before .before .before .before .before .before .before .before .lay .last .0 in
+    let front = take 0 old in
+    let at20 = first w0 old (c .before .before .before .before .before .before .before .before .before .before .before .before .before .before .before .before .before .before .before .before .before .rasteriser-words .result) to20 0 20 (c .before .before .before .before .before .before .before .before .before .before .before .before .before .before .before .before .before .before .lay .ensures) (c .before .before .before .before .before .before .before .before .before .before .before .before .before .before .before .before .before .before .before .before .before .rasteriser-words .ensures) refl in
+    let w1 : List ℕ = stageWords (a .stages .stage0) in
+    let to40 = c .before .before .before .before .before .before .before .before .before .before .before .before .before .before .lay-stage .last .0 in
+    let at40 = more front w0 w1 to20 w1 to40 20 40 at20 (c .before .before .before .before .before .before .before .before .before .before .before .before .before .before .lay-stage .ensures) (refl) refl in
+    let w2 : List ℕ = stageWords (a .stages .stage1) in
+    let to60 = c .before .before .before .before .before .before .before .before .before .before .lay-stage2 .last .0 in
+    let at60 = more front (w0 ++ w1) w2 to40 w2 to60 40 60 at40 (c .before .before .before .before .before .before .before .before .before .before .lay-stage2 .ensures) (refl) refl in
+    let w3 : List ℕ = stageWords (a .stages .stage2) in
+    let to80 = c .before .before .before .before .before .before .lay-stage3 .last .0 in
+    let at80 = more front ((w0 ++ w1) ++ w2) w3 to60 w3 to80 60 80 at60 (c .before .before .before .before .before .before .lay-stage3 .ensures) (refl) refl in
+    let w4 : List ℕ = stageWords (a .stages .stage3) in
+    more front (((w0 ++ w1) ++ w2) ++ w3) w4 to80 w4 (c .before .before .lay-stage4 .last .0) 80 100 at80 (c .before .before .lay-stage4 .ensures) (refl) refl
+
+pub lay-to-dc-spec : {M : Type 1} → statement M
+lay-to-dc-spec =
+    tie.close
+    (tie.spec
+    rasteriser-words-requires
+    slice-aggregate-lay
+    lay-requires
+    lay-stage-requires
+    lay-stage-requires-2
+    lay-stage-requires-3
+    lay-stage-requires-4
+    same-length
+    returns)

@@ -1,0 +1,84 @@
+use mathlib.Core.Path.{refl}
+use mathlib.Core.List.{List, _++_}
+use Prim.Native.Nat.{ℕ}
+use lib.ListN.{take}
+use Rattle.capi.proofs.Laid.{first, more}
+use Rattle.decode.specs.Flat.{fogWords, stageWords, colourWords}
+use borrow.Author.Needs.{needs}
+use Rattle.capi.proofs.fields.lay_to_fd.Statement.{statement}
+use Rattle.capi.proofs.fields.lay_to_fd.Tie as tie
+use Rattle.capi.proofs.fields.lay_to_fd.Reads as reads
+use Rattle.capi.proofs.fields.lay_to_fd.Lts as lts
+use Rattle.capi.proofs.fields.colour_words.Reads as colour-words-reads
+use Rattle.capi.proofs.fields.fog_words.Reads as fog-words-reads
+use Rattle.capi.proofs.fields.lay.Reads as lay-reads
+use Rattle.capi.proofs.fields.lay_stage.Reads as lay-stage-reads
+
+-- src/fields.rt:226:15
+fog-words-requires : tie.Need-fog-words-requires
+fog-words-requires c κs = search needs
+
+-- src/fields.rt:227:22
+slice-aggregate-lay : tie.Need-slice-aggregate-lay
+slice-aggregate-lay c = search needs
+
+-- src/fields.rt:227:5
+lay-requires : tie.Need-lay-requires
+lay-requires c κs = search needs
+
+-- src/fields.rt:228:5
+lay-stage-requires : tie.Need-lay-stage-requires
+lay-stage-requires c κs = search needs
+
+-- src/fields.rt:229:5
+lay-stage-requires-2 : tie.Need-lay-stage-requires-2
+lay-stage-requires-2 c κs = search needs
+
+-- src/fields.rt:230:18
+colour-words-requires : tie.Need-colour-words-requires
+colour-words-requires c κs = search needs
+
+-- src/fields.rt:231:22
+slice-aggregate-lay-2 : tie.Need-slice-aggregate-lay-2
+slice-aggregate-lay-2 c = search needs
+
+-- src/fields.rt:231:5
+lay-requires-2 : tie.Need-lay-requires-2
+lay-requires-2 c κs = search needs
+
+-- src/fields.rt:222:1
+same-length : tie.Need-same-length
+same-length c = search needs
+
+-- src/fields.rt:222:1
+returns : tie.Need-returns
+returns c =
+    let a = c .before .before .before .before .before .before .before .before .before .before .before .before .before .before .before .before .before .before .before .before .before .args in
+    let old = a .fields .now in
+    let w0 : List ℕ = fogWords (a .buffer) in
+    let to116 = c .before .before .before .before .before .before .before .before .before .before .before .before .before .before .before .before .lay .last .0 in
+    let front = take 100 old in
+    let at116 = first w0 old (c .before .before .before .before .before .before .before .before .before .before .before .before .before .before .before .before .before .before .before .fog-words .result) to116 100 116 (c .before .before .before .before .before .before .before .before .before .before .before .before .before .before .before .before .lay .ensures) (c .before .before .before .before .before .before .before .before .before .before .before .before .before .before .before .before .before .before .before .fog-words .ensures) refl in
+    let w1 : List ℕ = stageWords (a .stages .stage4) in
+    let to136 = c .before .before .before .before .before .before .before .before .before .before .before .before .lay-stage .last .0 in
+    let at136 = more front w0 w1 to116 w1 to136 116 136 at116 (c .before .before .before .before .before .before .before .before .before .before .before .before .lay-stage .ensures) (refl) refl in
+    let w2 : List ℕ = stageWords (a .stages .stage5) in
+    let to156 = c .before .before .before .before .before .before .before .before .lay-stage2 .last .0 in
+    let at156 = more front (w0 ++ w1) w2 to136 w2 to156 136 156 at136 (c .before .before .before .before .before .before .before .before .lay-stage2 .ensures) (refl) refl in
+    let w3 : List ℕ = colourWords (a .buffer .«buffer_colour») in
+    more front ((w0 ++ w1) ++ w2) w3 to156 (c .before .before .before .before .before .colour-words .result) (c .before .before .lay2 .last .0) 156 160 at156 (c .before .before .lay2 .ensures) (c .before .before .before .before .before .colour-words .ensures) refl
+
+pub lay-to-fd-spec : {M : Type 1} → statement M
+lay-to-fd-spec =
+    tie.close
+    (tie.spec
+    fog-words-requires
+    slice-aggregate-lay
+    lay-requires
+    lay-stage-requires
+    lay-stage-requires-2
+    colour-words-requires
+    slice-aggregate-lay-2
+    lay-requires-2
+    same-length
+    returns)

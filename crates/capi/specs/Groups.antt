@@ -1,0 +1,21 @@
+-- The decoded state's words in three groups, as they are laid out.
+use mathlib.Core.List.{List, _++_}
+use Prim.Native.Nat.{ℕ}
+use Rattle.decode.specs.Flat.{rasteriserWords, stageWords, fogWords, colourWords, blendingWords, testsWords, buffersWords, lightPortWords}
+use Rattle.decode.specs.declared.records.Rasteriser.{Rasteriser}
+use Rattle.decode.specs.declared.records.Stages.{Stages}
+use Rattle.decode.specs.declared.records.BufferFog.{BufferFog}
+use Rattle.decode.specs.declared.records.Framebuffer.{Framebuffer}
+use Rattle.decode.specs.declared.records.LightPort.{LightPort}
+
+-- 40 to DC
+abbrev pub wordsToDC : Rasteriser → Stages → List ℕ
+wordsToDC r s = rasteriserWords r ++ stageWords (s .stage0) ++ stageWords (s .stage1) ++ stageWords (s .stage2) ++ stageWords (s .stage3)
+
+-- E0 to FD
+abbrev pub wordsToFD : BufferFog → Stages → List ℕ
+wordsToFD b s = fogWords b ++ stageWords (s .stage4) ++ stageWords (s .stage5) ++ colourWords (b .«buffer_colour»)
+
+-- 100 to 1C5
+abbrev pub wordsTo1C5 : Framebuffer → LightPort → List ℕ
+wordsTo1C5 f l = blendingWords (f .blending) ++ testsWords (f .tests) ++ buffersWords (f .buffers) ++ lightPortWords l
