@@ -19,7 +19,6 @@ use registers::Written;
 use words::Refusal;
 
 mod colours;
-mod fields;
 
 // A refusal's number above, a place or an answer below.
 fn told(number: u32, value: usize) -> u64
@@ -87,7 +86,7 @@ pub extern "C" fn pica_decode(
 {
     match decode::decode(cells, fog, light) {
         Decoded::Held(settings) => {
-            fields::lay_settings(fields, settings);
+            flat::lay_settings(fields, settings);
             0
         }
         Decoded::Refused(why) => told(why.number, why.place),

@@ -5,7 +5,7 @@ use Prim.Native.Nat.{ℕ, zero, suc, _+_, _-_, _<_, _≤_, _^_}
 use native.Mathlib.Nat.{pow-succ'}
 use native.Mathlib.Numerals.{sub-one}
 use native.Mathlib.Omega.{arith}
-use lib.IntN.{ℤ, pos, negsuc, _-ℤ_}
+use lib.IntN.{ℤ, pos, negsuc, natAbs, _-ℤ_}
 use lib.Signed.{mag}
 use lib.Dec.{ltb}
 use borrow.Author.Tests.{lt-ltb, ltb-true, ltb-false}
@@ -49,3 +49,12 @@ module _ (n x : ℕ) (h : x < 2 ^ suc n) where
   pub signed-word : 2 ^ suc n ≤ 0x100000000 → twos (signed (suc n) x) ≡ pick (ltb x (2 ^ n)) x (x + (0x100000000 - 2 ^ suc n))
   unfolding signed
   signed-word l = rw (sub-one (suc n)) (word-by (ltb x (2 ^ n)) l)
+
+-- a number by its size
+pub fit : (z : ℤ) → natAbs z < 0x80000000 → SFits w32 z
+fit (pos n) h = record { sfits = h }
+fit (negsuc n) h = record { sfits = omega arith }
+
+-- what is stored and read again
+pub back : (z : ℤ) → natAbs z < 0x80000000 → toZ w32 (ofZ w32 z) ≡ z
+back z h = toZ-ofZ w32 z (fit z h)

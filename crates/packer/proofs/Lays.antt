@@ -4,13 +4,13 @@ use mathlib.Core.Bool.{Bool, true, false}
 use mathlib.Core.List.{List, _∷_, _++_, append-assoc}
 use Prim.Native.Nat.{ℕ, suc, _+_, _-_, _%_, _≤_, _<_}
 use native.Mathlib.Decide.{decLt}
-use native.Mathlib.Numerals.{add-one}
 use native.Mathlib.Omega.{arith}
 use lib.Dec.{eqb}
 use lib.ListN.{length, getD, take, drop, set, length-append, length-drop}
-use lib.Seq.{length-take-le, take-all, take-at, drop-at, take-add, drop-drop, getD-drop, paste, paste-zero, paste-suc, drop-paste}
+use lib.Seq.{length-take-le, take-all, take-at, drop-at, take-add, drop-drop, getD-drop, paste, paste-zero, drop-paste}
 use borrow.Author.Tests.{lt-ltb, le-ltb, eqb-true, eqb-false}
 use Rattle.numbers.specs.Pick.{pick}
+use Rattle.numbers.proofs.Copy.{next-word}
 use Rattle.words.specs.Writes.{Write, writing}
 use Rattle.cuts.specs.Cuts.{words, first}
 use Rattle.runs.specs.Span.{span}
@@ -23,11 +23,6 @@ use Rattle.runs.proofs.Shortest.{plain}
 use Rattle.runs.proofs.Writes.{writes-length, writes-at, values-from}
 use Rattle.packer.specs.Given.{Given}
 use Rattle.packer.specs.Laying.{stepAt}
-
--- a store of the next word, at the place p, takes a copy of j words to one of n = j + 1
-pub next-word : (old s : List ℕ) (at j p n x : ℕ) (new : List ℕ) → p ≡ at + j → n ≡ j + 1 → at + j < length old → j < length s
-    → new ≡ paste old at s j → x ≡ getD s j 0 → set new p x ≡ paste old at s n
-next-word old s at j p n x new e f h q a b = rw (a, b, e, f, add-one j) (paste-suc old at s j 0 h q)
 
 -- a copy of more words over a copy of fewer
 pub copy-more : (old s : List ℕ) (at j n : ℕ) → at + n ≤ length old → j ≤ length s → j ≤ n → paste (paste old at s j) at s n ≡ paste old at s n

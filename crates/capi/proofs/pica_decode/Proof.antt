@@ -1,38 +1,27 @@
+-- By what decoding answers. Assumes nothing.
 use borrow.Author.Needs.{needs}
 use Rattle.capi.proofs.pica_decode.Statement.{statement}
 use Rattle.capi.proofs.pica_decode.Tie as tie
-use Rattle.capi.proofs.pica_decode.Reads as reads
-use Rattle.capi.proofs.pica_decode.Lts as lts
-use Rattle.capi.proofs.fields.lay_settings.Reads as lay-settings-reads
-use Rattle.capi.proofs.told.Reads as told-reads
-use Rattle.decode.proofs.decode.Reads as decode-reads
 
--- src/lib.rt:93:11
 decode-requires : tie.Need-decode-requires
 decode-requires c κs = search needs
 
--- src/lib.rt:94:23
 enum-known-settings : tie.Need-enum-known-settings
 enum-known-settings c = search needs
 
--- src/lib.rt:95:13
 lay-settings-requires : tie.Need-lay-settings-requires
 lay-settings-requires c κs = search needs
 
--- src/lib.rt:98:26
 enum-known-why : tie.Need-enum-known-why
 enum-known-why c = search needs
 
--- src/lib.rt:98:34
 told-requires : tie.Need-told-requires
 told-requires c κs = search needs
 
--- src/lib.rt:84:1
 returns : tie.Need-returns
 returns c =
     (rw (← c .before .before .before .before .before .decode .ensures, c .before .before .before .settings .given .1), rw (← c .before .before .before .before .before .decode .ensures, c .before .before .before .settings .given .1) (c .lay-settings .ensures))
 
--- src/lib.rt:84:1
 returns-2 : tie.Need-returns-2
 returns-2 c =
     (rw (← c .before .before .before .before .decode .ensures, c .before .before .why .given .1, c .told .ensures), rw (← c .before .before .before .before .decode .ensures, c .before .before .why .given .1))

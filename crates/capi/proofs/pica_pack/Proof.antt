@@ -1,44 +1,32 @@
+-- By what packing answers. Assumes nothing.
 use borrow.Author.Needs.{needs}
 use Rattle.capi.proofs.pica_pack.Statement.{statement}
 use Rattle.capi.proofs.pica_pack.Tie as tie
-use Rattle.capi.proofs.pica_pack.Reads as reads
-use Rattle.capi.proofs.pica_pack.Lts as lts
-use Rattle.capi.proofs.told.Reads as told-reads
-use Rattle.packer.proofs.pack.Reads as pack-reads
 
--- src/lib.rt:77:11
 pack-requires : tie.Need-pack-requires
 pack-requires c κs = search needs
 
--- src/lib.rt:78:23
 enum-known-n : tie.Need-enum-known-n
 enum-known-n c = search needs
 
--- src/lib.rt:78:29
 told-requires : tie.Need-told-requires
 told-requires c κs = search needs
 
--- src/lib.rt:79:25
 enum-known-why : tie.Need-enum-known-why
 enum-known-why c = search needs
 
--- src/lib.rt:79:33
 told-requires-2 : tie.Need-told-requires-2
 told-requires-2 c κs = search needs
 
--- src/lib.rt:68:1
 same-length : tie.Need-same-length
 same-length c = search needs
 
--- src/lib.rt:68:1
 returns : tie.Need-returns
 returns c = (rw (← c .before .before .before .before .before .before .pack .ensures .0, c .before .before .n .given .1, c .told .ensures), c .before .before .before .before .before .before .pack .ensures .1)
 
--- src/lib.rt:68:1
 same-length-2 : tie.Need-same-length-2
 same-length-2 c = search needs
 
--- src/lib.rt:68:1
 returns-2 : tie.Need-returns-2
 returns-2 c = (rw (← c .before .before .before .before .before .before .pack .ensures .0, c .before .before .why .given .1, c .told2 .ensures), c .before .before .before .before .before .before .pack .ensures .1)
 

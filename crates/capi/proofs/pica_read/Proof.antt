@@ -1,60 +1,44 @@
+-- By what reading answers. Assumes nothing.
 use borrow.Author.Needs.{needs}
 use Rattle.capi.proofs.pica_read.Statement.{statement}
 use Rattle.capi.proofs.pica_read.Tie as tie
-use Rattle.capi.proofs.pica_read.Reads as reads
-use Rattle.capi.proofs.pica_read.Lts as lts
-use Rattle.capi.proofs.told.Reads as told-reads
-use Rattle.reader.proofs.read.Reads as read-reads
 
--- src/lib.rt:42:11
 read-requires : tie.Need-read-requires
 read-requires c κs = search needs
 
--- src/lib.rt:43:27
 enum-known-n : tie.Need-enum-known-n
 enum-known-n c = search needs
 
--- src/lib.rt:43:33
 told-requires : tie.Need-told-requires
 told-requires c κs = search needs
 
--- src/lib.rt:44:26
 enum-known-why : tie.Need-enum-known-why
 enum-known-why c = search needs
 
--- src/lib.rt:44:34
 told-requires-2 : tie.Need-told-requires-2
 told-requires-2 c κs = search needs
 
--- src/lib.rt:32:1
 same-length : tie.Need-same-length
 same-length c = search needs
 
--- src/lib.rt:32:1
 same-length-2 : tie.Need-same-length-2
 same-length-2 c = search needs
 
--- src/lib.rt:32:1
 same-length-3 : tie.Need-same-length-3
 same-length-3 c = search needs
 
--- src/lib.rt:32:1
 returns : tie.Need-returns
 returns c = (rw (← c .before .before .before .before .before .before .before .before .before .before .read .ensures .0, c .before .before .n .given .1, c .told .ensures), c .before .before .before .before .before .before .before .before .before .before .read .ensures .1)
 
--- src/lib.rt:32:1
 same-length-4 : tie.Need-same-length-4
 same-length-4 c = search needs
 
--- src/lib.rt:32:1
 same-length-5 : tie.Need-same-length-5
 same-length-5 c = search needs
 
--- src/lib.rt:32:1
 same-length-6 : tie.Need-same-length-6
 same-length-6 c = search needs
 
--- src/lib.rt:32:1
 returns-2 : tie.Need-returns-2
 returns-2 c = (rw (← c .before .before .before .before .before .before .before .before .before .before .read .ensures .0, c .before .before .why .given .1, c .told2 .ensures), c .before .before .before .before .before .before .before .before .before .before .read .ensures .1)
 

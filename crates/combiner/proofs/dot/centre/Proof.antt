@@ -1,6 +1,6 @@
 -- A byte about its middle is small. Assumes nothing.
-use Rattle.decode.proofs.Signed.{small}
-use Rattle.combiner.proofs.Signed.{fit, back, near}
+use Rattle.decode.proofs.Signed.{small, fit, back}
+use Rattle.combiner.proofs.Signed.{near}
 use Rattle.combiner.specs.Dot.{centred}
 use lib.IntN.{pos, natAbs, _-ℤ_}
 use Prim.Native.Nat.{_*_, _≤_}

@@ -1,5 +1,6 @@
 -- A sum of three products stays within 195,075 either way. Assumes nothing.
-use Rattle.combiner.proofs.Signed.{fit, back, abs-add}
+use Rattle.decode.proofs.Signed.{fit, back}
+use Rattle.combiner.proofs.Signed.{abs-add}
 use Rattle.combiner.specs.Dot.{dot3Of}
 use lib.IntN.{natAbs, _+ℤ_}
 use native.Mathlib.Omega.{arith}

@@ -1,5 +1,6 @@
 -- The product of two centred bytes. Assumes nothing.
-use Rattle.combiner.proofs.Signed.{fit, back, product}
+use Rattle.decode.proofs.Signed.{fit, back}
+use Rattle.combiner.proofs.Signed.{product}
 use lib.IntN.{natAbs, _*ℤ_}
 use Prim.Native.Nat.{_≤_}
 use native.Mathlib.Omega.{arith}

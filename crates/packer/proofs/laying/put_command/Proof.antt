@@ -8,7 +8,8 @@ use lib.Seq.{paste}
 use borrow.Author.Needs.{needs}
 use Rattle.cuts.specs.Cuts.{words}
 use Rattle.runs.specs.Packed.{writes, header, command}
-use Rattle.packer.proofs.Lays.{next-word, copy-more, copied, word-extra, word-pad, plain-at, two-words}
+use Rattle.numbers.proofs.Copy.{next-word}
+use Rattle.packer.proofs.Lays.{copy-more, copied, word-extra, word-pad, plain-at, two-words}
 use Rattle.packer.proofs.laying.put_command.Statement.{statement}
 use Rattle.packer.proofs.laying.put_command.Tie as tie
 

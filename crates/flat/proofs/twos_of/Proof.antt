@@ -6,10 +6,10 @@ use lib.Signed.{natAbs-le}
 use mir.Syntax.{w32}
 use mir.Val.{toZ, ofZ}
 use mir.ValLaws.{toZ-ofZ}
-use Rattle.combiner.proofs.Signed.{fit, back}
-use Rattle.capi.proofs.Twos.{below-zero, above-zero}
-use Rattle.capi.proofs.fields.twos_of.Statement.{statement}
-use Rattle.capi.proofs.fields.twos_of.Tie as tie
+use Rattle.decode.proofs.Signed.{fit, back}
+use Rattle.flat.proofs.Twos.{below-zero, above-zero}
+use Rattle.flat.proofs.twos_of.Statement.{statement}
+use Rattle.flat.proofs.twos_of.Tie as tie
 
 sub-result : tie.Need-sub-result
 sub-result c =

@@ -5,10 +5,10 @@ use native.Mathlib.Omega.{arith}
 use lib.ListN.{length, length-set}
 use lib.Seq.{paste, paste-zero}
 use borrow.Author.Needs.{needs}
-use Rattle.packer.proofs.Lays.{next-word}
-use Rattle.capi.proofs.Laid.{laid}
-use Rattle.capi.proofs.fields.lay.Statement.{statement}
-use Rattle.capi.proofs.fields.lay.Tie as tie
+use Rattle.numbers.proofs.Copy.{next-word}
+use Rattle.flat.proofs.Laid.{laid}
+use Rattle.flat.proofs.lay.Statement.{statement}
+use Rattle.flat.proofs.lay.Tie as tie
 
 abbrev Inv-loop : tie.InvT-loop
 Inv-loop fields₀ at ws i₀ fields i = (i ≤ length ws) × (length fields ≡ length fields₀) × (fields ≡ paste fields₀ at ws i)

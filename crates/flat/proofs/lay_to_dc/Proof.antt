@@ -1,51 +1,38 @@
+-- One group behind another. Assumes nothing.
 use mathlib.Core.Path.{refl}
 use mathlib.Core.List.{List, _++_}
 use Prim.Native.Nat.{ℕ}
 use lib.ListN.{take}
-use Rattle.capi.proofs.Laid.{first, more}
+use Rattle.flat.proofs.Laid.{first, more}
 use Rattle.decode.specs.Flat.{rasteriserWords, stageWords}
 use borrow.Author.Needs.{needs}
-use Rattle.capi.proofs.fields.lay_to_dc.Statement.{statement}
-use Rattle.capi.proofs.fields.lay_to_dc.Tie as tie
-use Rattle.capi.proofs.fields.lay_to_dc.Reads as reads
-use Rattle.capi.proofs.fields.lay_to_dc.Lts as lts
-use Rattle.capi.proofs.fields.lay.Reads as lay-reads
-use Rattle.capi.proofs.fields.lay_stage.Reads as lay-stage-reads
-use Rattle.capi.proofs.fields.rasteriser_words.Reads as rasteriser-words-reads
+use Rattle.flat.proofs.lay_to_dc.Statement.{statement}
+use Rattle.flat.proofs.lay_to_dc.Tie as tie
 
--- src/fields.rt:213:14
 rasteriser-words-requires : tie.Need-rasteriser-words-requires
 rasteriser-words-requires c κs = search needs
 
--- src/fields.rt:214:20
 slice-aggregate-lay : tie.Need-slice-aggregate-lay
 slice-aggregate-lay c = search needs
 
--- src/fields.rt:214:5
 lay-requires : tie.Need-lay-requires
 lay-requires c κs = search needs
 
--- src/fields.rt:215:5
 lay-stage-requires : tie.Need-lay-stage-requires
 lay-stage-requires c κs = search needs
 
--- src/fields.rt:216:5
 lay-stage-requires-2 : tie.Need-lay-stage-requires-2
 lay-stage-requires-2 c κs = search needs
 
--- src/fields.rt:217:5
 lay-stage-requires-3 : tie.Need-lay-stage-requires-3
 lay-stage-requires-3 c κs = search needs
 
--- src/fields.rt:218:5
 lay-stage-requires-4 : tie.Need-lay-stage-requires-4
 lay-stage-requires-4 c κs = search needs
 
--- src/fields.rt:209:1
 same-length : tie.Need-same-length
 same-length c = search needs
 
--- src/fields.rt:209:1
 returns : tie.Need-returns
 returns c =
     let a = c .before .before .before .before .before .before .before .before .before .before .before .before .before .before .before .before .before .before .before .before .before .before .before .args in

@@ -1,73 +1,53 @@
+-- One group behind another. Assumes nothing.
 use mathlib.Core.Path.{refl}
 use mathlib.Core.List.{List, _++_}
 use Prim.Native.Nat.{ℕ}
 use lib.ListN.{take}
-use Rattle.capi.proofs.Laid.{first, more}
+use Rattle.flat.proofs.Laid.{first, more}
 use Rattle.decode.specs.Flat.{blendingWords, testsWords, buffersWords, lightPortWords}
 use borrow.Author.Needs.{needs}
-use Rattle.capi.proofs.fields.lay_to_1c5.Statement.{statement}
-use Rattle.capi.proofs.fields.lay_to_1c5.Tie as tie
-use Rattle.capi.proofs.fields.lay_to_1c5.Reads as reads
-use Rattle.capi.proofs.fields.lay_to_1c5.Lts as lts
-use Rattle.capi.proofs.fields.blending_words.Reads as blending-words-reads
-use Rattle.capi.proofs.fields.buffers_words.Reads as buffers-words-reads
-use Rattle.capi.proofs.fields.lay.Reads as lay-reads
-use Rattle.capi.proofs.fields.light_port_words.Reads as light-port-words-reads
-use Rattle.capi.proofs.fields.tests_words.Reads as tests-words-reads
+use Rattle.flat.proofs.lay_to_1c5.Statement.{statement}
+use Rattle.flat.proofs.lay_to_1c5.Tie as tie
 
--- src/fields.rt:239:20
 blending-words-requires : tie.Need-blending-words-requires
 blending-words-requires c κs = search needs
 
--- src/fields.rt:240:22
 slice-aggregate-lay : tie.Need-slice-aggregate-lay
 slice-aggregate-lay c = search needs
 
--- src/fields.rt:240:5
 lay-requires : tie.Need-lay-requires
 lay-requires c κs = search needs
 
--- src/fields.rt:241:17
 tests-words-requires : tie.Need-tests-words-requires
 tests-words-requires c κs = search needs
 
--- src/fields.rt:242:22
 slice-aggregate-lay-2 : tie.Need-slice-aggregate-lay-2
 slice-aggregate-lay-2 c = search needs
 
--- src/fields.rt:242:5
 lay-requires-2 : tie.Need-lay-requires-2
 lay-requires-2 c κs = search needs
 
--- src/fields.rt:243:19
 buffers-words-requires : tie.Need-buffers-words-requires
 buffers-words-requires c κs = search needs
 
--- src/fields.rt:244:22
 slice-aggregate-lay-3 : tie.Need-slice-aggregate-lay-3
 slice-aggregate-lay-3 c = search needs
 
--- src/fields.rt:244:5
 lay-requires-3 : tie.Need-lay-requires-3
 lay-requires-3 c κs = search needs
 
--- src/fields.rt:245:16
 light-port-words-requires : tie.Need-light-port-words-requires
 light-port-words-requires c κs = search needs
 
--- src/fields.rt:246:22
 slice-aggregate-lay-4 : tie.Need-slice-aggregate-lay-4
 slice-aggregate-lay-4 c = search needs
 
--- src/fields.rt:246:5
 lay-requires-4 : tie.Need-lay-requires-4
 lay-requires-4 c κs = search needs
 
--- src/fields.rt:235:1
 same-length : tie.Need-same-length
 same-length c = search needs
 
--- src/fields.rt:235:1
 returns : tie.Need-returns
 returns c =
     let a = c .before .before .before .before .before .before .before .before .before .before .before .before .before .before .before .before .before .before .before .before .before .before .before .before .before .args in

@@ -5,7 +5,7 @@ ghost use Prim.Native.Nat.{_+_, _≤_};
 ghost use lib.ListN.{length, take};
 ghost use Rattle.decode.specs.Fields.{twos};
 ghost use Rattle.decode.specs.Flat.{rasteriserWords, stageWords, fogWords, colourWords, blendingWords, testsWords, buffersWords, lightPortWords, flat};
-ghost use Rattle.capi.specs.Groups.{wordsToDC, wordsToFD, wordsTo1C5};
+ghost use Rattle.flat.specs.Groups.{wordsToDC, wordsToFD, wordsTo1C5};
 use decode::records::Blending;
 use decode::records::BufferFog;
 use decode::records::Buffers;
@@ -247,8 +247,7 @@ fn lay_to_1c5(fields: &mut [u32], framebuffer: Framebuffer, port: LightPort)
 }
 
 // Every field of the decoded state.
-pub fn lay_settings(fields: &mut [u32], s: Settings)
-    requires { ⌜ length (now fields) ≡ 204 ⌝ }
+pub fn lay_settings(fields: &mut [u32; 204], s: Settings)
     ensures { λ _. ⌜ now (fields .exit) ≡ flat s ⌝ }
 {
     let stages = s.stages;

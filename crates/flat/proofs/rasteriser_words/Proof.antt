@@ -1,21 +1,16 @@
+-- As the calls ensure; what a signed field holds fits 32 bits. Assumes nothing.
 use mir.Syntax.{w32}
 use mir.ValLaws.{toZ-ofZ}
 use borrow.Author.Needs.{needs}
-use Rattle.capi.proofs.fields.rasteriser_words.Statement.{statement}
-use Rattle.capi.proofs.fields.rasteriser_words.Tie as tie
-use Rattle.capi.proofs.fields.rasteriser_words.Reads as reads
-use Rattle.capi.proofs.fields.rasteriser_words.Lts as lts
-use Rattle.capi.proofs.fields.twos_of.Reads as twos-of-reads
+use Rattle.flat.proofs.rasteriser_words.Statement.{statement}
+use Rattle.flat.proofs.rasteriser_words.Tie as tie
 
--- src/fields.rt:50:9
 twos-of-requires : tie.Need-twos-of-requires
 twos-of-requires c κs = search needs
 
--- src/fields.rt:51:9
 twos-of-requires-2 : tie.Need-twos-of-requires-2
 twos-of-requires-2 c κs = search needs
 
--- src/fields.rt:29:1
 returns : tie.Need-returns
 returns c =
     let xy = c .before .before .before .before .before .args .r .viewport .xy in

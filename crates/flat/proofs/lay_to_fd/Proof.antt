@@ -1,56 +1,41 @@
+-- One group behind another. Assumes nothing.
 use mathlib.Core.Path.{refl}
 use mathlib.Core.List.{List, _++_}
 use Prim.Native.Nat.{ℕ}
 use lib.ListN.{take}
-use Rattle.capi.proofs.Laid.{first, more}
+use Rattle.flat.proofs.Laid.{first, more}
 use Rattle.decode.specs.Flat.{fogWords, stageWords, colourWords}
 use borrow.Author.Needs.{needs}
-use Rattle.capi.proofs.fields.lay_to_fd.Statement.{statement}
-use Rattle.capi.proofs.fields.lay_to_fd.Tie as tie
-use Rattle.capi.proofs.fields.lay_to_fd.Reads as reads
-use Rattle.capi.proofs.fields.lay_to_fd.Lts as lts
-use Rattle.capi.proofs.fields.colour_words.Reads as colour-words-reads
-use Rattle.capi.proofs.fields.fog_words.Reads as fog-words-reads
-use Rattle.capi.proofs.fields.lay.Reads as lay-reads
-use Rattle.capi.proofs.fields.lay_stage.Reads as lay-stage-reads
+use Rattle.flat.proofs.lay_to_fd.Statement.{statement}
+use Rattle.flat.proofs.lay_to_fd.Tie as tie
 
--- src/fields.rt:226:15
 fog-words-requires : tie.Need-fog-words-requires
 fog-words-requires c κs = search needs
 
--- src/fields.rt:227:22
 slice-aggregate-lay : tie.Need-slice-aggregate-lay
 slice-aggregate-lay c = search needs
 
--- src/fields.rt:227:5
 lay-requires : tie.Need-lay-requires
 lay-requires c κs = search needs
 
--- src/fields.rt:228:5
 lay-stage-requires : tie.Need-lay-stage-requires
 lay-stage-requires c κs = search needs
 
--- src/fields.rt:229:5
 lay-stage-requires-2 : tie.Need-lay-stage-requires-2
 lay-stage-requires-2 c κs = search needs
 
--- src/fields.rt:230:18
 colour-words-requires : tie.Need-colour-words-requires
 colour-words-requires c κs = search needs
 
--- src/fields.rt:231:22
 slice-aggregate-lay-2 : tie.Need-slice-aggregate-lay-2
 slice-aggregate-lay-2 c = search needs
 
--- src/fields.rt:231:5
 lay-requires-2 : tie.Need-lay-requires-2
 lay-requires-2 c κs = search needs
 
--- src/fields.rt:222:1
 same-length : tie.Need-same-length
 same-length c = search needs
 
--- src/fields.rt:222:1
 returns : tie.Need-returns
 returns c =
     let a = c .before .before .before .before .before .before .before .before .before .before .before .before .before .before .before .before .before .before .before .before .before .args in
