@@ -1,0 +1,59 @@
+/* Shared by the parts of the benchmark. */
+#ifndef BENCH_H
+#define BENCH_H
+
+#include "plain.h"
+
+struct state {
+    uint32_t cells[PICA_CELLS], fog[PICA_FOG_ENTRIES], light[PICA_LIGHT_ENTRIES];
+};
+
+#define LENT(s) (s)->cells, PICA_CELLS, (s)->fog, PICA_FOG_ENTRIES, (s)->light, PICA_LIGHT_ENTRIES
+
+/* The proved library and the plain version are called through the same table, so that the way of calling costs both the same. */
+struct library {
+    uint64_t (*read)(uint32_t *, size_t, uint32_t *, size_t, uint32_t *, size_t, const uint32_t *, size_t);
+    uint64_t (*write)(uint32_t *, size_t, uint32_t *, size_t, uint32_t *, size_t, uint32_t, uint32_t, uint32_t);
+    uint64_t (*pack)(const uint32_t *, size_t, const uint32_t *, size_t, const uint32_t *, size_t, uint32_t *, size_t);
+    uint64_t (*decode)(const uint32_t *, size_t, const uint32_t *, size_t, const uint32_t *, size_t, uint32_t *);
+    uint64_t (*fragment)(const uint32_t *, size_t, const uint32_t *, size_t, const uint32_t *, size_t, const uint32_t *, uint32_t *);
+};
+
+extern const struct library ours, plain;
+
+/* Room for one word too many, and for one write. */
+struct list {
+    size_t length;
+    uint32_t words[PICA_MOST_WORDS + 1];
+};
+
+struct run {
+    size_t length;
+    uint32_t ids[PICA_MOST_WRITES + 1], masks[PICA_MOST_WRITES + 1], values[PICA_MOST_WRITES + 1];
+};
+
+/* make.c: numbers that look random and are the same in every run, and what is built from them. */
+uint32_t any(void);
+uint32_t below(uint32_t limit);
+uint32_t held_id(void);
+void fill(uint32_t *words, size_t length);
+void command(struct list *list, uint32_t id, uint32_t mask, uint32_t writes, uint32_t step);
+void valid_state(struct state *s);
+void mixed_tests(struct state *s);
+void valid_given(uint32_t given[PICA_GIVEN], const struct state *s);
+
+/* work.c: the workloads. */
+void short_held(struct list *list, size_t words);
+void light_uploads(struct list *list, size_t words);
+void fog_uploads(struct list *list, size_t words);
+void long_unheld(struct list *list, size_t words);
+void capture(struct list *list, size_t words);
+void refused_at_last(struct list *list, size_t words);
+void few_ids(struct run *run, size_t writes);
+void rising_ids(struct run *run, size_t writes);
+void equal_ids(struct run *run, size_t writes);
+
+/* compare.c: how many random cases both answered alike; 0 where one differed, which is then shown. */
+unsigned compare_random(void);
+
+#endif

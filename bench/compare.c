@@ -1,0 +1,156 @@
+/* Random cases, most of them near the edges of the rules: both libraries must give the same answer and leave the same in every buffer. */
+#include <stdio.h>
+#include <string.h>
+
+#include "bench.h"
+
+enum { READS = 40000, WRITES = 20000, PACKS = 30000, STATES = 30000 };
+
+static struct state left_by_ours, left_by_plain;
+
+static int alike(const char *what, unsigned which, uint64_t a, uint64_t b, const void *x, const void *y, size_t size) {
+    if (a == b && memcmp(x, y, size) == 0) return 1;
+    printf("%s case %u differs: ours %u, %u; plain %u, %u%s\n", what, which, (unsigned)pica_number(a), (unsigned)pica_value(a),
+           (unsigned)pica_number(b), (unsigned)pica_value(b), memcmp(x, y, size) ? "; the buffers too" : "");
+    return 0;
+}
+
+static void new_states(void) {
+    fill(left_by_ours.cells, PICA_CELLS);
+    fill(left_by_ours.fog, PICA_FOG_ENTRIES);
+    fill(left_by_ours.light, PICA_LIGHT_ENTRIES);
+    left_by_plain = left_by_ours;
+}
+
+/* The three lengths of a state; in one case of 64 one of them is shorter than it has to be, and still true. */
+static void lengths(size_t to[3]) {
+    to[0] = PICA_CELLS;
+    to[1] = PICA_FOG_ENTRIES;
+    to[2] = PICA_LIGHT_ENTRIES;
+    if (below(64) == 0) to[below(3)] -= 1 + below(8);
+}
+
+static uint32_t edge_id(void) {
+    static const uint16_t edges[] = {0x23B, 0x23C, 0x23D, 0x23E, 0x2FE, 0x2FF, 0x300, 0x1C4, 0x1D0, 0x3F, 0xF0, 0xFFFF};
+    switch (below(40)) {
+    case 0: return edges[below(12)];
+    case 1: return below(0x10000);
+    case 2: case 3: case 4: return 0xE4 + below(12);
+    case 5: case 6: case 7: return 0x1C4 + below(12);
+    case 8: case 9: case 10: case 11: return below(0x300);
+    default: return held_id();
+    }
+}
+
+static uint32_t edge_mask(uint32_t id) {
+    int port = (id >= 0xE0 && id < 0xF0) || (id >= 0x1C0 && id < 0x1D0);
+    return below(port ? 32 : 2) ? 15 : below(16);
+}
+
+static void random_list(struct list *list) {
+    uint32_t commands = below(24);
+    list->length = 0;
+    while (commands-- > 0) {
+        uint32_t id = edge_id(), writes = below(16) ? 1 + below(6) : 1 + below(256);
+        size_t at = list->length;
+        command(list, id, edge_mask(id), writes, below(2));
+        list->words[at + 1] |= below(8) << 28; /* any unused bits are accepted */
+    }
+    if (below(16) == 0 && list->length > 0) list->length -= 1 + below(list->length < 4 ? 1 : 3);
+    if (below(2000) == 0) list->length = PICA_MOST_WORDS + below(2); /* whatever stands there */
+}
+
+static int compare_reads(void) {
+    static struct list list;
+    size_t n[3];
+    for (unsigned k = 0; k < READS; k++) {
+        if (k % 64 == 0) new_states();
+        random_list(&list);
+        lengths(n);
+        struct state *a = &left_by_ours, *b = &left_by_plain;
+        uint64_t x = ours.read(a->cells, n[0], a->fog, n[1], a->light, n[2], list.words, list.length);
+        uint64_t y = plain.read(b->cells, n[0], b->fog, n[1], b->light, n[2], list.words, list.length);
+        if (!alike("read", k, x, y, a, b, sizeof *a)) return 0;
+    }
+    return 1;
+}
+
+static int compare_writes(void) {
+    size_t n[3];
+    new_states();
+    for (unsigned k = 0; k < WRITES; k++) {
+        uint32_t id = below(64) ? edge_id() : any(), mask = below(16) ? edge_mask(id) : below(2) ? below(20) : any(), value = any();
+        lengths(n);
+        struct state *a = &left_by_ours, *b = &left_by_plain;
+        uint64_t x = ours.write(a->cells, n[0], a->fog, n[1], a->light, n[2], id, mask, value);
+        uint64_t y = plain.write(b->cells, n[0], b->fog, n[1], b->light, n[2], id, mask, value);
+        if (!alike("write", k, x, y, a, b, sizeof *a)) return 0;
+    }
+    return 1;
+}
+
+/* Mostly short; the long ones have stretches beyond the 256 writes that a command can carry. */
+static void random_run(struct run *run) {
+    uint32_t id = edge_id() % 0x240, mask = 15, turn = below(16) ? 4 : 400;
+    run->length = below(64) ? below(64) : below(16) ? below(2000) : PICA_MOST_WRITES - 1 + below(3);
+    uint32_t rises = below(2);
+    for (size_t k = 0; k < run->length; k++) {
+        if (below(turn) == 0) rises = below(2);
+        if (below(turn) == 0) id = below(8) ? 0x41 + below(6) : edge_id();
+        if (below(4 * turn) == 0) mask = below(16) ? below(2) ? 15 : 3 : below(20);
+        if ((id >= 0xE0 && id < 0xF0) || (id >= 0x1C0 && id < 0x1D0)) mask = 15;
+        if (id > 0x238) id = 0x120;
+        run->ids[k] = below(4000) ? id : edge_id();
+        run->masks[k] = mask;
+        run->values[k] = any();
+        id += rises;
+    }
+}
+
+static int compare_packs(void) {
+    static struct run run;
+    static uint32_t spaces[2][2 * PICA_MOST_WRITES + 8];
+    fill(spaces[0], 2 * PICA_MOST_WRITES + 8);
+    memcpy(spaces[1], spaces[0], sizeof spaces[0]);
+    for (unsigned k = 0; k < PACKS; k++) {
+        random_run(&run);
+        size_t n[3] = {run.length, run.length, run.length}, room = below(4) ? 2 * run.length + below(8) : below(2 * (uint32_t)run.length + 1);
+        if (below(64) == 0 && run.length > 0) n[below(3)]--;
+        uint64_t x = ours.pack(run.ids, n[0], run.masks, n[1], run.values, n[2], spaces[0], room);
+        uint64_t y = plain.pack(run.ids, n[0], run.masks, n[1], run.values, n[2], spaces[1], room);
+        if (!alike("pack", k, x, y, spaces[0], spaces[1], sizeof spaces[0])) return 0;
+    }
+    return 1;
+}
+
+/* Mostly a state that can be drawn with; else one register or one depth is random. */
+static void random_state(struct state *s, uint32_t given[PICA_GIVEN]) {
+    static const uint16_t coded[] = {0xC0, 0xC9, 0xD2, 0xDC, 0xE0, 0xF2, 0xFA, 0xFC, 0x100, 0x101, 0x116, 0x117};
+    valid_state(s);
+    if (below(2)) s->cells[0x107] |= 0x1F00; /* without it few fragments write a whole colour */
+    if (below(4) == 0) s->cells[coded[below(12)]] = any();
+    valid_given(given, s);
+    if (below(16) == 0) given[below(2) ? PICA_GIVEN_INCOMING_DEPTH : PICA_GIVEN_STORED_DEPTH] = any() >> below(17);
+}
+
+static int compare_states(void) {
+    uint32_t given[PICA_GIVEN], fields[2][PICA_FIELDS] = {{0}}, stored[2][PICA_STORED] = {{0}};
+    size_t n[3];
+    struct state *s = &left_by_ours;
+    for (unsigned k = 0; k < STATES; k++) {
+        random_state(s, given);
+        lengths(n);
+        uint64_t x = ours.decode(s->cells, n[0], s->fog, n[1], s->light, n[2], fields[0]);
+        uint64_t y = plain.decode(s->cells, n[0], s->fog, n[1], s->light, n[2], fields[1]);
+        if (!alike("decode", k, x, y, fields[0], fields[1], sizeof fields[0])) return 0;
+        x = ours.fragment(s->cells, n[0], s->fog, n[1], s->light, n[2], given, stored[0]);
+        y = plain.fragment(s->cells, n[0], s->fog, n[1], s->light, n[2], given, stored[1]);
+        if (!alike("fragment", k, x, y, stored[0], stored[1], sizeof stored[0])) return 0;
+    }
+    return 1;
+}
+
+unsigned compare_random(void) {
+    if (!compare_reads() || !compare_writes() || !compare_packs() || !compare_states()) return 0;
+    return READS + WRITES + PACKS + STATES;
+}

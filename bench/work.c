@@ -1,0 +1,109 @@
+#include "bench.h"
+
+/* LISTS: each is filled up to `words` words; the longest command has 258. */
+
+static size_t left(const struct list *list, size_t words) { return words - list->length; }
+
+/* A list's last commands: one word pair each, so that it has the length asked for. */
+static void pad(struct list *list, size_t words) {
+    while (left(list, words) >= 2) command(list, held_id(), 15, 1, 0);
+}
+
+void short_held(struct list *list, size_t words) {
+    list->length = 0;
+    while (left(list, words) >= 6) {
+        uint32_t mask = below(2) ? 15 : below(16), writes = 1 + below(4);
+        /* a stage's registers are the longest stretch of held ids that every start has */
+        uint32_t step = below(2), id = step ? 0xC0 + 8 * below(4) : held_id();
+        command(list, id, mask, writes, step);
+    }
+    pad(list, words);
+}
+
+/* The port's index is set, then a whole table goes in one command. */
+static void upload(struct list *list, uint32_t index_id, uint32_t index, uint32_t data_id, uint32_t entries) {
+    list->words[list->length] = index;
+    list->words[list->length + 1] = index_id | 0xF0000;
+    list->length += 2;
+    command(list, data_id, 15, entries, 0);
+}
+
+void light_uploads(struct list *list, size_t words) {
+    list->length = 0;
+    for (uint32_t table = 0; left(list, words) >= 260; table = (table + 1) % 24) upload(list, 0x1C5, table << 8, 0x1C8, 256);
+    pad(list, words);
+}
+
+void fog_uploads(struct list *list, size_t words) {
+    list->length = 0;
+    while (left(list, words) >= 132) upload(list, 0xE6, 0, 0xE8, 128);
+    pad(list, words);
+}
+
+void long_unheld(struct list *list, size_t words) {
+    list->length = 0;
+    while (left(list, words) >= 194) command(list, 0x240, 15, 191, 1);
+    pad(list, words);
+}
+
+/* One object of a captured frame: its shader's constants, its attributes, now and then a table, its stages, its tests, and the call that draws it. */
+static void object(struct list *list) {
+    command(list, 0x2C0, 15, 1, 0);
+    command(list, 0x2C1, 15, 4 * (1 + below(16)), 0);
+    command(list, 0x200, 15, 3 + below(24), 1);
+    command(list, 0x80, 15, 1 + below(14), 1);
+    command(list, 0x40, 15, 5, 1);
+    for (uint32_t b = 0xC0; b <= 0xD8; b += 8)
+        if (below(2)) command(list, b, 15, 5, 1);
+    command(list, 0xE0, below(2) ? 2 : 5, 1, 0);
+    if (below(8) == 0) upload(list, 0x1C5, below(24) << 8, 0x1C8, 256);
+    if (below(8) == 0) upload(list, 0xE6, 0, 0xE8, 128);
+    command(list, 0x100, 15, 8, 1);
+    command(list, 0x112, 15, 6, 1);
+    command(list, 0x11C, 15, 3, 1);
+    command(list, 0x107, 1 + below(3), 1, 0);
+    command(list, 0x22E, 15, 1, 0);
+    command(list, 0x110, 15, 2, 1);
+}
+
+void capture(struct list *list, size_t words) {
+    enum { LONGEST_OBJECT = 640 };
+    list->length = 0;
+    while (left(list, words) >= LONGEST_OBJECT) object(list);
+    pad(list, words);
+}
+
+/* The whole list is judged before its last command is found to be a jump. */
+void refused_at_last(struct list *list, size_t words) {
+    capture(list, words - 2);
+    command(list, 0x23C, 15, 1, 0);
+}
+
+/* RUNS */
+
+static void write_of(struct run *run, size_t k, uint32_t id, uint32_t mask) {
+    run->ids[k] = id;
+    run->masks[k] = mask;
+    run->values[k] = any();
+}
+
+/* Few ids next to each other, so that runs of equal and of rising ids are common, short and compete. */
+void few_ids(struct run *run, size_t writes) {
+    uint32_t id = 0x41;
+    run->length = writes;
+    for (size_t k = 0; k < writes; k++) {
+        uint32_t how = below(8);
+        id = how < 4 ? 0x41 + (id - 0x41 + 1) % 8 : how < 6 ? id : 0x41 + below(8);
+        write_of(run, k, id, below(16) ? 15 : 3);
+    }
+}
+
+void rising_ids(struct run *run, size_t writes) {
+    run->length = writes;
+    for (size_t k = 0; k < writes; k++) write_of(run, k, 0x240 + (uint32_t)(k % 0xC0), 15);
+}
+
+void equal_ids(struct run *run, size_t writes) {
+    run->length = writes;
+    for (size_t k = 0; k < writes; k++) write_of(run, k, 0x41, 15);
+}

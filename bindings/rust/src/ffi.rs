@@ -1,0 +1,178 @@
+//! The five C functions, and the only `unsafe` code of the crate.
+//!
+//! The C functions ask of their caller that each pointer is aligned and not null, that its length is true, and that buffers passed together do not
+//! overlap. Below, every buffer is a Rust reference, which is never null, is aligned and has its true length, for an empty slice too. A buffer that is
+//! written to is a `&mut`, which nothing overlaps; what overlaps among shared references is only read. The functions keep no pointer after they return.
+
+#![allow(unsafe_code)]
+
+use crate::fragment::{GIVEN, STORED};
+use crate::{Refusal, CELLS, FIELDS, FOG_ENTRIES, LIGHT_ENTRIES};
+
+mod c {
+    extern "C" {
+        pub fn pica_read(
+            cells: *mut u32,
+            cells_length: usize,
+            fog: *mut u32,
+            fog_length: usize,
+            light: *mut u32,
+            light_length: usize,
+            list: *const u32,
+            list_length: usize,
+        ) -> u64;
+        pub fn pica_write(
+            cells: *mut u32,
+            cells_length: usize,
+            fog: *mut u32,
+            fog_length: usize,
+            light: *mut u32,
+            light_length: usize,
+            id: u32,
+            mask: u32,
+            value: u32,
+        ) -> u64;
+        pub fn pica_pack(
+            ids: *const u32,
+            ids_length: usize,
+            masks: *const u32,
+            masks_length: usize,
+            values: *const u32,
+            values_length: usize,
+            space: *mut u32,
+            space_length: usize,
+        ) -> u64;
+        pub fn pica_decode(
+            cells: *const u32,
+            cells_length: usize,
+            fog: *const u32,
+            fog_length: usize,
+            light: *const u32,
+            light_length: usize,
+            fields: *mut u32,
+        ) -> u64;
+        pub fn pica_fragment(
+            cells: *const u32,
+            cells_length: usize,
+            fog: *const u32,
+            fog_length: usize,
+            light: *const u32,
+            light_length: usize,
+            given: *const u32,
+            stored: *mut u32,
+        ) -> u64;
+    }
+}
+
+/// The high half of an answer is the refusal's number, 0 for none; the low half the answer or the place.
+fn apart(answer: u64) -> Result<u32, Refusal> {
+    let (number, low) = ((answer >> 32) as u32, answer as u32);
+    if number == 0 {
+        Ok(low)
+    } else {
+        Err(Refusal { number, place: low })
+    }
+}
+
+pub fn read(
+    cells: &mut [u32; CELLS],
+    fog: &mut [u32; FOG_ENTRIES],
+    light: &mut [u32; LIGHT_ENTRIES],
+    list: &[u32],
+) -> Result<u32, Refusal> {
+    // SAFETY: three distinct `&mut` arrays and a shared slice, each passed with its own length.
+    apart(unsafe {
+        c::pica_read(
+            cells.as_mut_ptr(),
+            cells.len(),
+            fog.as_mut_ptr(),
+            fog.len(),
+            light.as_mut_ptr(),
+            light.len(),
+            list.as_ptr(),
+            list.len(),
+        )
+    })
+}
+
+pub fn write(
+    cells: &mut [u32; CELLS],
+    fog: &mut [u32; FOG_ENTRIES],
+    light: &mut [u32; LIGHT_ENTRIES],
+    id: u32,
+    mask: u32,
+    value: u32,
+) -> Result<u32, Refusal> {
+    // SAFETY: three distinct `&mut` arrays, each passed with its own length; any id, mask and value is allowed.
+    apart(unsafe {
+        c::pica_write(
+            cells.as_mut_ptr(),
+            cells.len(),
+            fog.as_mut_ptr(),
+            fog.len(),
+            light.as_mut_ptr(),
+            light.len(),
+            id,
+            mask,
+            value,
+        )
+    })
+}
+
+pub fn pack(ids: &[u32], masks: &[u32], values: &[u32], space: &mut [u32]) -> Result<u32, Refusal> {
+    // SAFETY: three shared slices that are only read, and a `&mut` slice that none of them overlaps, each passed with its own length.
+    apart(unsafe {
+        c::pica_pack(
+            ids.as_ptr(),
+            ids.len(),
+            masks.as_ptr(),
+            masks.len(),
+            values.as_ptr(),
+            values.len(),
+            space.as_mut_ptr(),
+            space.len(),
+        )
+    })
+}
+
+pub fn decode(
+    cells: &[u32; CELLS],
+    fog: &[u32; FOG_ENTRIES],
+    light: &[u32; LIGHT_ENTRIES],
+    fields: &mut [u32; FIELDS],
+) -> Result<u32, Refusal> {
+    // SAFETY: three shared arrays that are only read, with their own lengths; `fields` is a `&mut` array of exactly the words that are written.
+    apart(unsafe {
+        c::pica_decode(
+            cells.as_ptr(),
+            cells.len(),
+            fog.as_ptr(),
+            fog.len(),
+            light.as_ptr(),
+            light.len(),
+            fields.as_mut_ptr(),
+        )
+    })
+}
+
+pub fn fragment(
+    cells: &[u32; CELLS],
+    fog: &[u32; FOG_ENTRIES],
+    light: &[u32; LIGHT_ENTRIES],
+    given: &[u32; GIVEN],
+    stored: &mut [u32; STORED],
+) -> Result<u32, Refusal> {
+    // SAFETY: four shared arrays that are only read; `given` and the `&mut` array `stored` have exactly the words that are read and written.
+    apart(unsafe {
+        c::pica_fragment(
+            cells.as_ptr(),
+            cells.len(),
+            fog.as_ptr(),
+            fog.len(),
+            light.as_ptr(),
+            light.len(),
+            given.as_ptr(),
+            stored.as_mut_ptr(),
+        )
+    })
+}

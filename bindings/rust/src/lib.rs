@@ -1,0 +1,37 @@
+//! Command lists of the PICA200, the graphics chip of an old handheld, by the proved library Ilgadeuk.
+//!
+//! A list of command words is read into a [`State`], a register file and two lookup tables, or refused by a number and a place. A state is decoded
+//! into [`Settings`] and tells what one fragment leaves in the framebuffer. The other way round, [`pack`] turns a run of register writes into the
+//! shortest list there is.
+//!
+//! Any words and any numbers may come in: every call answers or gives a [`Refusal`], and a refused call changes nothing.
+//!
+//! ```
+//! use pica::State;
+//!
+//! let mut state = State::default();
+//! let writes = state.read(&[0x2, 0x000F_0040])?; // culling mode 2, into register 40
+//! assert_eq!(writes, 1);
+//! assert_eq!(state.decode()?.rasteriser.culling, 2);
+//! # Ok::<(), pica::Refusal>(())
+//! ```
+//!
+//! Nothing in this crate's face is `unsafe`, and the library behind it allocates nothing and keeps nothing between calls.
+
+#![deny(missing_docs)]
+#![deny(unsafe_code)]
+
+mod ffi;
+mod flat;
+mod fragment;
+mod pack;
+mod refusal;
+mod settings;
+mod state;
+
+pub use flat::FIELDS;
+pub use fragment::{Given, Outcome, Stored, Verdict};
+pub use pack::{pack, packed, Write, MOST_WRITES};
+pub use refusal::Refusal;
+pub use settings::*;
+pub use state::{State, CELLS, FOG_ENTRIES, LIGHT_ENTRIES, MOST_WORDS};

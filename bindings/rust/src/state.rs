@@ -1,0 +1,227 @@
+//! A state: the register file and the two tables.
+
+use std::fmt;
+
+use crate::{ffi, flat, fragment, Given, Outcome, Refusal, Settings, Stored};
+
+/// Register cells of a state: cell `i` is register `i`.
+pub const CELLS: usize = 768;
+/// Fog entries of a state.
+pub const FOG_ENTRIES: usize = 128;
+/// Light entries of a state: entry `k` of table `t` is at `256 * t + k`.
+pub const LIGHT_ENTRIES: usize = 6_144;
+/// The most words that a list may have.
+pub const MOST_WORDS: usize = 65_536;
+
+/// The register file, the fog table and the light tables. Its default is all zeros.
+///
+/// Of a cell only the bits that the register holds count, and of an entry only the low 24. All other bits are never read by a call and never changed.
+#[derive(Clone, PartialEq, Eq)]
+pub struct State {
+    cells: Box<[u32; CELLS]>,
+    fog: Box<[u32; FOG_ENTRIES]>,
+    light: Box<[u32; LIGHT_ENTRIES]>,
+}
+
+impl State {
+    /// A state from its three buffers.
+    ///
+    /// # Errors
+    ///
+    /// 6 where a buffer has the wrong length.
+    ///
+    /// ```
+    /// use pica::{Refusal, State};
+    ///
+    /// assert!(State::from_parts(vec![0; 768], vec![0; 128], vec![0; 6144]).is_ok());
+    /// let refusal = State::from_parts(vec![0; 768], vec![0; 127], vec![0; 6144]).unwrap_err();
+    /// assert_eq!(refusal.number, Refusal::BUFFER_LENGTH);
+    /// ```
+    pub fn from_parts(cells: Vec<u32>, fog: Vec<u32>, light: Vec<u32>) -> Result<Self, Refusal> {
+        Ok(Self {
+            cells: sized(cells)?,
+            fog: sized(fog)?,
+            light: sized(light)?,
+        })
+    }
+
+    /// The register cells.
+    pub fn cells(&self) -> &[u32; CELLS] {
+        &self.cells
+    }
+
+    /// The register cells, to be changed.
+    pub fn cells_mut(&mut self) -> &mut [u32; CELLS] {
+        &mut self.cells
+    }
+
+    /// The fog entries.
+    pub fn fog(&self) -> &[u32; FOG_ENTRIES] {
+        &self.fog
+    }
+
+    /// The fog entries, to be changed.
+    pub fn fog_mut(&mut self) -> &mut [u32; FOG_ENTRIES] {
+        &mut self.fog
+    }
+
+    /// The light entries.
+    pub fn light(&self) -> &[u32; LIGHT_ENTRIES] {
+        &self.light
+    }
+
+    /// The light entries, to be changed.
+    pub fn light_mut(&mut self) -> &mut [u32; LIGHT_ENTRIES] {
+        &mut self.light
+    }
+
+    /// Reads a list of command words into the state, and gives the number of its writes.
+    ///
+    /// # Errors
+    ///
+    /// 1; then for each command in turn 2 where its words are not all there, or 3, 4 or 5 by its first write at fault, with the index of the
+    /// command's first word. The state is then as it was.
+    ///
+    /// ```
+    /// use pica::{Refusal, State};
+    ///
+    /// let mut state = State::default();
+    /// // registers 41, 42 and 43: ids rise, so that the second and third parameter go to the next ones
+    /// assert_eq!(state.read(&[1, 0x802F_0041, 2, 3])?, 3);
+    /// assert_eq!(state.cells()[0x41..0x44], [1, 2, 3]);
+    ///
+    /// // the same to one register needs no padding either, but it is cut short here
+    /// let refusal = state.read(&[9, 0x000F_0041, 1, 0x002F_0041, 2]).unwrap_err();
+    /// assert_eq!(refusal, Refusal { number: Refusal::WORDS_MISSING, place: 2 });
+    /// assert_eq!(state.cells()[0x41], 1);
+    /// # Ok::<(), Refusal>(())
+    /// ```
+    pub fn read(&mut self, list: &[u32]) -> Result<usize, Refusal> {
+        ffi::read(&mut self.cells, &mut self.fog, &mut self.light, list)
+            .map(|writes| writes as usize)
+    }
+
+    /// Applies a single write. Bit 0 of the mask stands for the lowest byte of the value.
+    ///
+    /// # Errors
+    ///
+    /// In this order: 9, 3, 4, 5. The state is then as it was.
+    ///
+    /// ```
+    /// use pica::{Refusal, State};
+    ///
+    /// let mut state = State::default();
+    /// state.write(0x107, 2, 0x1F71)?;
+    /// assert_eq!(state.cells()[0x107], 0x1F00);
+    /// assert_eq!(state.write(0x107, 16, 0).unwrap_err().number, Refusal::MASK_ABOVE_15);
+    /// # Ok::<(), Refusal>(())
+    /// ```
+    pub fn write(&mut self, id: u32, mask: u32, value: u32) -> Result<(), Refusal> {
+        ffi::write(
+            &mut self.cells,
+            &mut self.fog,
+            &mut self.light,
+            id,
+            mask,
+            value,
+        )
+        .map(|_| ())
+    }
+
+    /// Decodes the state into its 204 fields.
+    ///
+    /// # Errors
+    ///
+    /// 13 where a register holds a code without a name, with the lowest id of such a register.
+    ///
+    /// ```
+    /// use pica::{Refusal, State};
+    ///
+    /// let mut state = State::default();
+    /// state.write(0x68, 15, 0x01FF_0200)?;
+    /// let xy = state.decode()?.rasteriser.viewport.xy;
+    /// assert_eq!((xy.x, xy.y), (-512, 511));
+    ///
+    /// state.write(0x116, 15, 1)?; // no depth format has this code
+    /// let refusal = state.decode().unwrap_err();
+    /// assert_eq!(refusal, Refusal { number: Refusal::CODE_WITHOUT_NAME, place: 0x116 });
+    /// # Ok::<(), Refusal>(())
+    /// ```
+    pub fn decode(&self) -> Result<Settings, Refusal> {
+        let mut words = [0; flat::FIELDS];
+        ffi::decode(&self.cells, &self.fog, &self.light, &mut words)?;
+        Ok(Settings::from_flat(&words))
+    }
+
+    /// What a fragment leaves: its colours are given, its depth is incoming, and stored is what the framebuffer had for its pixel.
+    ///
+    /// # Errors
+    ///
+    /// In this order: 13 and 14, with the lowest id; 12, at 0 for the incoming depth, at 1 for the stored one.
+    ///
+    /// ```
+    /// use pica::{Colour, Given, Refusal, State, Stored, Verdict};
+    ///
+    /// let mut state = State::default();
+    /// state.write(0xC2, 15, 0x0001_0001)?; // stage 0: modulate, RGB and alpha
+    /// for stage in [0xC8, 0xD0, 0xD8, 0xF0, 0xF8] {
+    ///     state.write(stage, 15, 0x000F_000F)?; // the others hand on what they see as Previous
+    /// }
+    /// state.write(0x102, 15, 3)?; // logic operation: copy
+    /// state.write(0x107, 15, 0x0F00)?; // all four channels, no depth test
+    /// state.write(0x113, 15, 15)?; // colour may be written
+    /// state.write(0x117, 15, 2)?; // four bytes a pixel
+    ///
+    /// let given = Given { primary: Colour { red: 128, green: 255, blue: 0, alpha: 255 }, ..Given::default() };
+    /// let outcome = state.fragment(&given, 0, Stored::default())?;
+    /// assert_eq!(outcome.verdict, Verdict::Pass);
+    /// assert_eq!(outcome.stored.colour, Colour { red: 64, green: 255, blue: 0, alpha: 255 });
+    ///
+    /// let refusal = state.fragment(&given, 65_536, Stored::default()).unwrap_err();
+    /// assert_eq!(refusal, Refusal { number: Refusal::DEPTH_ABOVE_LARGEST, place: 0 });
+    /// # Ok::<(), Refusal>(())
+    /// ```
+    pub fn fragment(
+        &self,
+        given: &Given,
+        incoming: u32,
+        stored: Stored,
+    ) -> Result<Outcome, Refusal> {
+        let words = fragment::words_of(given, incoming, stored);
+        let mut after = [0; fragment::STORED];
+        let verdict = ffi::fragment(&self.cells, &self.fog, &self.light, &words, &mut after)?;
+        Ok(fragment::outcome_of(verdict, after))
+    }
+}
+
+/// A buffer of exactly the right length.
+fn sized<const N: usize>(words: Vec<u32>) -> Result<Box<[u32; N]>, Refusal> {
+    words.into_boxed_slice().try_into().map_err(|_| Refusal {
+        number: Refusal::BUFFER_LENGTH,
+        place: 0,
+    })
+}
+
+impl Default for State {
+    fn default() -> Self {
+        Self {
+            cells: Box::new([0; CELLS]),
+            fog: Box::new([0; FOG_ENTRIES]),
+            light: Box::new([0; LIGHT_ENTRIES]),
+        }
+    }
+}
+
+/// Short: seven thousand words help nobody, so only how many are not zero is shown.
+impl fmt::Debug for State {
+    fn fmt(&self, f: &mut fmt::Formatter<'_>) -> fmt::Result {
+        let set = |words: &[u32]| words.iter().filter(|&&word| word != 0).count();
+        write!(
+            f,
+            "State {{ cells: {} of {CELLS} set, fog: {} of {FOG_ENTRIES}, light: {} of {LIGHT_ENTRIES} }}",
+            set(&*self.cells),
+            set(&*self.fog),
+            set(&*self.light)
+        )
+    }
+}

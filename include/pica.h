@@ -1,0 +1,287 @@
+/*
+ * Ilgadeuk's C functions: command lists of the PICA200 read, written, decoded and packed, and one fragment's result.
+ *
+ * Link libcapi.a, which is for x86-64 Linux and needs nothing but the C library.
+ *
+ * ANSWERS. Each function answers one 64-bit number. Its high 32 bits are 0 where the call was answered, else the number of the refusal; its low 32 bits
+ * are the answer, or the refusal's place. pica_number() and pica_value() take it apart. A place that is given no meaning below is 0.
+ *
+ * BUFFERS. Each buffer is a pointer to 32-bit words, with its length in words where the length is not fixed. All of them belong to the caller: the
+ * library keeps nothing between calls and allocates nothing. The functions ask only that the pointers and lengths are true:
+ *   - a pointer is aligned for uint32_t and not null. For a length of 0 any such pointer will do;
+ *   - buffers that are passed together do not overlap.
+ * Everything else is answered or refused, whatever the words are. A refused call changes no buffer.
+ *
+ * A STATE is three buffers: 768 register cells (the cell of register i is cells[i]), 128 fog entries, and 6,144 light entries (entry k of table t is
+ * light[256 * t + k]). Of a cell only the bits that the register holds count, of an entry only the low 24; all other bits are never read and never
+ * changed. A state of zeros is a state like any other.
+ *
+ * Calls may run at the same time as long as none of them writes a buffer that another one is lent.
+ */
+#ifndef PICA_H
+#define PICA_H
+
+#include <stddef.h>
+#include <stdint.h>
+
+#ifdef __cplusplus
+extern "C" {
+#endif
+
+/* Lengths, in words. */
+#define PICA_CELLS 768
+#define PICA_FOG_ENTRIES 128
+#define PICA_LIGHT_ENTRIES 6144
+#define PICA_FIELDS 204
+#define PICA_GIVEN 11
+#define PICA_STORED 3
+
+/* Limits: the words of a list that is read, the writes of a run that is packed. */
+#define PICA_MOST_WORDS 65536
+#define PICA_MOST_WRITES 4096
+
+/* The refusals. Number 11 is not used. */
+enum pica_refusal {
+    PICA_LIST_TOO_LONG = 1,        /* a list over 65,536 words */
+    PICA_WORDS_MISSING = 2,        /* a command needs more words than are left, a lone word included; the padding word counts */
+    PICA_ID_ABOVE_2FF = 3,         /* a write to an id above 2FFh */
+    PICA_JUMP_REGISTER = 4,        /* a write to 23Ch or 23Dh */
+    PICA_PORT_MASK = 5,            /* a write to port data, E8h-EFh or 1C8h-1CFh, with a mask other than Fh */
+    PICA_BUFFER_LENGTH = 6,        /* a state buffer of the wrong length */
+    PICA_LENGTHS_DIFFER = 7,       /* ids, masks and values differ in length */
+    PICA_TOO_MANY_WRITES = 8,      /* over 4,096 writes */
+    PICA_MASK_ABOVE_15 = 9,        /* a mask above 15 */
+    PICA_NO_ROOM = 10,             /* the space is shorter than the shortest list */
+    PICA_DEPTH_ABOVE_LARGEST = 12, /* a depth above 65,535 for depth format 0, above 16,777,215 for any other */
+    PICA_CODE_WITHOUT_NAME = 13,   /* a register holds a code that has no name */
+    PICA_NOT_BUILT = 14            /* E0h, 100h or 117h asks for what is not built */
+};
+
+/* What became of a fragment. */
+enum pica_verdict {
+    PICA_ALPHA_FAILURE = 0,
+    PICA_STENCIL_FAILURE = 1,
+    PICA_DEPTH_FAILURE = 2,
+    PICA_PASS = 3
+};
+
+/* The number of the refusal, 0 where the call was answered. */
+static inline uint32_t pica_number(uint64_t answer) { return (uint32_t)(answer >> 32); }
+
+/* What the call answered; where it was refused, the refusal's place. */
+static inline uint32_t pica_value(uint64_t answer) { return (uint32_t)answer; }
+
+/*
+ * Reads a list of command words into a state: every write of every command, one after another.
+ *
+ * Answers the number of writes.
+ * Refuses, in this order:
+ *   6   at 0
+ *   1   at 0
+ *   then for each command in turn, with the index of the command's first word in the list as place,
+ *     2             where the command's words are not all there,
+ *     3, 4 or 5     by its first write at fault.
+ * cells, fog, light: changed as the writes say; on a refusal, wherever in the list it is, they are as they were.
+ * list: only read.
+ */
+uint64_t pica_read(uint32_t *cells, size_t cells_length, uint32_t *fog, size_t fog_length, uint32_t *light, size_t light_length,
+                   const uint32_t *list, size_t list_length);
+
+/*
+ * Applies a single write to a state. Bit 0 of the mask stands for the lowest byte of the value.
+ *
+ * Answers 0.
+ * Refuses, in this order and each at 0: 6, 9, 3, 4, 5.
+ * cells, fog, light: changed as the write says; on a refusal as they were.
+ */
+uint64_t pica_write(uint32_t *cells, size_t cells_length, uint32_t *fog, size_t fog_length, uint32_t *light, size_t light_length, uint32_t id,
+                    uint32_t mask, uint32_t value);
+
+/*
+ * Packs a run of writes into the shortest list there is: write k sets the bytes masks[k] of register ids[k] to those of values[k]. Among the shortest
+ * lists it is the one whose first command carries the most writes, then its second, and so on. It is never longer than two words a write.
+ *
+ * Answers the words of the list.
+ * Refuses, in this order:
+ *   7   at 0
+ *   8   at 0
+ *   then for each write in turn, with its index as place: 9, 3, 4 or 5
+ *   10  with the words needed as place. So a call with space_length 0 asks for the length of the list.
+ * ids, masks, values: only read.
+ * space: the list stands at its start, and past the list it keeps its contents; on a refusal it is as it was.
+ */
+uint64_t pica_pack(const uint32_t *ids, size_t ids_length, const uint32_t *masks, size_t masks_length, const uint32_t *values, size_t values_length,
+                   uint32_t *space, size_t space_length);
+
+/*
+ * Decodes a state into its 204 fields, in the order of enum pica_field.
+ *
+ * Answers 0.
+ * Refuses, in this order:
+ *   6   at 0
+ *   13  with the lowest id of a register that holds a code without a name as place
+ * cells, fog, light: only read.
+ * fields: all 204 are set; on a refusal they are as they were.
+ */
+uint64_t pica_decode(const uint32_t *cells, size_t cells_length, const uint32_t *fog, size_t fog_length, const uint32_t *light, size_t light_length,
+                     uint32_t fields[PICA_FIELDS]);
+
+/*
+ * Tells what one fragment leaves in the framebuffer.
+ *
+ * Answers the verdict, of enum pica_verdict.
+ * Refuses, in this order:
+ *   6   at 0
+ *   13  with the lowest id of a register that holds a code without a name as place
+ *   14  with the lowest id of a register that asks for what is not built as place: E0h fog mode not 0; 100h mode not 0, or bit 8, 24 or 25 set; 117h not
+ *       size 2 with format 0
+ *   12  at 0 for the incoming depth, then at 1 for the stored one
+ * cells, fog, light, given: only read. given is laid out by enum pica_given.
+ * stored: by enum pica_stored what is then stored, for any verdict; on a refusal it is as it was.
+ */
+uint64_t pica_fragment(const uint32_t *cells, size_t cells_length, const uint32_t *fog, size_t fog_length, const uint32_t *light, size_t light_length,
+                       const uint32_t given[PICA_GIVEN], uint32_t stored[PICA_STORED]);
+
+/* What a fragment is given. A colour has red in its low byte, then green, blue and alpha. Of the stencil only the low 8 bits count. */
+enum pica_given {
+    PICA_GIVEN_PRIMARY = 0,
+    PICA_GIVEN_FRAGMENT_PRIMARY,
+    PICA_GIVEN_FRAGMENT_SECONDARY,
+    PICA_GIVEN_TEXTURE0,
+    PICA_GIVEN_TEXTURE1,
+    PICA_GIVEN_TEXTURE2,
+    PICA_GIVEN_TEXTURE3,
+    PICA_GIVEN_INCOMING_DEPTH,
+    PICA_GIVEN_STORED_COLOUR,
+    PICA_GIVEN_STORED_STENCIL,
+    PICA_GIVEN_STORED_DEPTH
+};
+
+/* What is then stored. */
+enum pica_stored {
+    PICA_STORED_COLOUR = 0,
+    PICA_STORED_STENCIL,
+    PICA_STORED_DEPTH
+};
+
+/* The fields of one stage, by its registers: source, operand, combiner, colour, scale. */
+#define PICA_FIELDS_OF_STAGE_(stage)                                                                                                                \
+    PICA_FIELD_##stage##_SOURCE_RGB0, PICA_FIELD_##stage##_SOURCE_RGB1, PICA_FIELD_##stage##_SOURCE_RGB2, PICA_FIELD_##stage##_SOURCE_ALPHA0,       \
+    PICA_FIELD_##stage##_SOURCE_ALPHA1, PICA_FIELD_##stage##_SOURCE_ALPHA2, PICA_FIELD_##stage##_OPERAND_RGB0, PICA_FIELD_##stage##_OPERAND_RGB1,   \
+    PICA_FIELD_##stage##_OPERAND_RGB2, PICA_FIELD_##stage##_OPERAND_ALPHA0, PICA_FIELD_##stage##_OPERAND_ALPHA1,                                    \
+    PICA_FIELD_##stage##_OPERAND_ALPHA2, PICA_FIELD_##stage##_COMBINER_RGB, PICA_FIELD_##stage##_COMBINER_ALPHA, PICA_FIELD_##stage##_COLOUR_RED,   \
+    PICA_FIELD_##stage##_COLOUR_GREEN, PICA_FIELD_##stage##_COLOUR_BLUE, PICA_FIELD_##stage##_COLOUR_ALPHA, PICA_FIELD_##stage##_SCALE_RGB,         \
+    PICA_FIELD_##stage##_SCALE_ALPHA
+
+/*
+ * The decoded fields, ids ascending and then lowest bit first. Each is the unsigned number that its bits hold; only the two of 68h are signed, -512..511
+ * in two's complement.
+ */
+enum pica_field {
+    PICA_FIELD_CULLING = 0,     /* 40 */
+    PICA_FIELD_VIEWPORT_WIDTH,  /* 41 */
+    PICA_FIELD_VIEWPORT_INVW,   /* 42 */
+    PICA_FIELD_VIEWPORT_HEIGHT, /* 43 */
+    PICA_FIELD_VIEWPORT_INVH,   /* 44 */
+    PICA_FIELD_CLIP_ENABLE,     /* 47 */
+    PICA_FIELD_CLIP_DATA0,      /* 48-4B */
+    PICA_FIELD_CLIP_DATA1,
+    PICA_FIELD_CLIP_DATA2,
+    PICA_FIELD_CLIP_DATA3,
+    PICA_FIELD_DEPTHMAP_SCALE,  /* 4D */
+    PICA_FIELD_DEPTHMAP_OFFSET, /* 4E */
+    PICA_FIELD_SCISSOR_MODE,    /* 65 */
+    PICA_FIELD_SCISSOR_POS_X,   /* 66 */
+    PICA_FIELD_SCISSOR_POS_Y,
+    PICA_FIELD_SCISSOR_DIM_X,   /* 67 */
+    PICA_FIELD_SCISSOR_DIM_Y,
+    PICA_FIELD_VIEWPORT_XY_X,   /* 68, signed */
+    PICA_FIELD_VIEWPORT_XY_Y,
+    PICA_FIELD_DEPTHMAP_ENABLE, /* 6D */
+
+    PICA_FIELDS_OF_STAGE_(STAGE0), /* C0-C4 */
+    PICA_FIELDS_OF_STAGE_(STAGE1), /* C8-CC */
+    PICA_FIELDS_OF_STAGE_(STAGE2), /* D0-D4 */
+    PICA_FIELDS_OF_STAGE_(STAGE3), /* D8-DC */
+
+    PICA_FIELD_UPDATE_FOG_MODE, /* E0; RGB1 to ALPHA4 are the buffer inputs of stages 1 to 4 */
+    PICA_FIELD_UPDATE_DENSITY_SOURCE,
+    PICA_FIELD_UPDATE_RGB1,
+    PICA_FIELD_UPDATE_RGB2,
+    PICA_FIELD_UPDATE_RGB3,
+    PICA_FIELD_UPDATE_RGB4,
+    PICA_FIELD_UPDATE_ALPHA1,
+    PICA_FIELD_UPDATE_ALPHA2,
+    PICA_FIELD_UPDATE_ALPHA3,
+    PICA_FIELD_UPDATE_ALPHA4,
+    PICA_FIELD_UPDATE_Z_FLIP,
+    PICA_FIELD_UPDATE_UNKNOWN,
+    PICA_FIELD_FOG_COLOUR_RED,  /* E1 */
+    PICA_FIELD_FOG_COLOUR_GREEN,
+    PICA_FIELD_FOG_COLOUR_BLUE,
+    PICA_FIELD_FOG_INDEX,       /* E6 */
+
+    PICA_FIELDS_OF_STAGE_(STAGE4), /* F0-F4 */
+    PICA_FIELDS_OF_STAGE_(STAGE5), /* F8-FC */
+
+    PICA_FIELD_BUFFER_COLOUR_RED, /* FD */
+    PICA_FIELD_BUFFER_COLOUR_GREEN,
+    PICA_FIELD_BUFFER_COLOUR_BLUE,
+    PICA_FIELD_BUFFER_COLOUR_ALPHA,
+
+    PICA_FIELD_BLENDING_OPERATION_MODE, /* 100 */
+    PICA_FIELD_BLENDING_OPERATION_BLEND,
+    PICA_FIELD_BLENDING_OPERATION_SECOND_LINES,
+    PICA_FIELD_BLENDING_OPERATION_NOTHING,
+    PICA_FIELD_BLENDING_FUNCTION_RGB_EQUATION, /* 101 */
+    PICA_FIELD_BLENDING_FUNCTION_ALPHA_EQUATION,
+    PICA_FIELD_BLENDING_FUNCTION_RGB_SOURCE,
+    PICA_FIELD_BLENDING_FUNCTION_RGB_DESTINATION,
+    PICA_FIELD_BLENDING_FUNCTION_ALPHA_SOURCE,
+    PICA_FIELD_BLENDING_FUNCTION_ALPHA_DESTINATION,
+    PICA_FIELD_BLENDING_LOGIC_OP,  /* 102 */
+    PICA_FIELD_BLENDING_COLOUR_RED, /* 103 */
+    PICA_FIELD_BLENDING_COLOUR_GREEN,
+    PICA_FIELD_BLENDING_COLOUR_BLUE,
+    PICA_FIELD_BLENDING_COLOUR_ALPHA,
+
+    PICA_FIELD_TESTS_ALPHA_ENABLE, /* 104 */
+    PICA_FIELD_TESTS_ALPHA_FUNCTION,
+    PICA_FIELD_TESTS_ALPHA_REFERENCE,
+    PICA_FIELD_TESTS_STENCIL_ENABLE, /* 105 */
+    PICA_FIELD_TESTS_STENCIL_FUNCTION,
+    PICA_FIELD_TESTS_STENCIL_BUFFER_MASK,
+    PICA_FIELD_TESTS_STENCIL_REFERENCE,
+    PICA_FIELD_TESTS_STENCIL_MASK,
+    PICA_FIELD_TESTS_STENCIL_OP_FAIL, /* 106 */
+    PICA_FIELD_TESTS_STENCIL_OP_Z_FAIL,
+    PICA_FIELD_TESTS_STENCIL_OP_Z_PASS,
+    PICA_FIELD_TESTS_DEPTH_ENABLE, /* 107: the depth test, and what is written */
+    PICA_FIELD_TESTS_DEPTH_FUNCTION,
+    PICA_FIELD_TESTS_DEPTH_RED,
+    PICA_FIELD_TESTS_DEPTH_GREEN,
+    PICA_FIELD_TESTS_DEPTH_BLUE,
+    PICA_FIELD_TESTS_DEPTH_ALPHA,
+    PICA_FIELD_TESTS_DEPTH_DEPTH,
+
+    PICA_FIELD_BUFFERS_COLOUR_READING, /* 112 */
+    PICA_FIELD_BUFFERS_COLOUR_WRITING, /* 113 */
+    PICA_FIELD_BUFFERS_DEPTH_READING_STENCIL, /* 114 */
+    PICA_FIELD_BUFFERS_DEPTH_READING_DEPTH,
+    PICA_FIELD_BUFFERS_DEPTH_WRITING_STENCIL, /* 115 */
+    PICA_FIELD_BUFFERS_DEPTH_WRITING_DEPTH,
+    PICA_FIELD_BUFFERS_DEPTH_FORMAT, /* 116 */
+    PICA_FIELD_BUFFERS_COLOUR_FORMAT_SIZE, /* 117 */
+    PICA_FIELD_BUFFERS_COLOUR_FORMAT_FORMAT,
+
+    PICA_FIELD_LIGHT_PORT_INDEX, /* 1C5 */
+    PICA_FIELD_LIGHT_PORT_TABLE,
+
+    PICA_FIELD_COUNT /* how many there are: PICA_FIELDS */
+};
+
+#ifdef __cplusplus
+}
+#endif
+
+#endif

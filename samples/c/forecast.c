@@ -1,0 +1,159 @@
+/*
+ * Judges a captured list, shows what it sets, forecasts the length of a packed run, and draws one fragment with the state that the list leaves.
+ *
+ *     forecast FILE        FILE holds the list's words, four bytes a word, the lowest byte first
+ *
+ * Ends with status 0, with 1 where a call was refused, and with 2 where FILE is no list of words.
+ */
+#include <stdio.h>
+#include <string.h>
+
+#include "pica.h"
+
+/* A field that is added to the header's list, or lost from it, would shift every name behind it. */
+typedef char names_every_field[PICA_FIELD_COUNT == PICA_FIELDS ? 1 : -1];
+
+struct state {
+    uint32_t cells[PICA_CELLS];
+    uint32_t fog[PICA_FOG_ENTRIES];
+    uint32_t light[PICA_LIGHT_ENTRIES];
+};
+
+/* A whole state is lent to every call, always in this order. */
+#define LENT(s) (s)->cells, PICA_CELLS, (s)->fog, PICA_FOG_ENTRIES, (s)->light, PICA_LIGHT_ENTRIES
+
+/* One word more than the limit, so that a list that is too long is refused as such and not cut. */
+#define MOST_LOADED (PICA_MOST_WORDS + 1)
+
+static const char *name_of(uint32_t number) {
+    switch (number) {
+    case PICA_LIST_TOO_LONG: return "list too long";
+    case PICA_WORDS_MISSING: return "words missing";
+    case PICA_ID_ABOVE_2FF: return "id above 2FF";
+    case PICA_JUMP_REGISTER: return "jump register";
+    case PICA_PORT_MASK: return "port mask";
+    case PICA_BUFFER_LENGTH: return "buffer length";
+    case PICA_LENGTHS_DIFFER: return "lengths differ";
+    case PICA_TOO_MANY_WRITES: return "too many writes";
+    case PICA_MASK_ABOVE_15: return "mask above 15";
+    case PICA_NO_ROOM: return "no room";
+    case PICA_DEPTH_ABOVE_LARGEST: return "depth above largest";
+    case PICA_CODE_WITHOUT_NAME: return "code without name";
+    case PICA_NOT_BUILT: return "not built";
+    default: return "unknown";
+    }
+}
+
+/* 1 where the call was answered; else says why not. */
+static int answered(const char *what, uint64_t answer) {
+    if (pica_number(answer) == 0) return 1;
+    printf("%s: refused, %s (%u) at %u\n", what, name_of(pica_number(answer)), (unsigned)pica_number(answer), (unsigned)pica_value(answer));
+    return 0;
+}
+
+/* The words of a file, MOST_LOADED at most; -1 where it cannot be read or ends within a word. */
+static long load(const char *path, uint32_t *words) {
+    unsigned char bytes[4];
+    long count = 0;
+    size_t got = 0;
+    FILE *file = fopen(path, "rb");
+    if (!file) return -1;
+    while (count < MOST_LOADED && (got = fread(bytes, 1, 4, file)) == 4)
+        words[count++] = bytes[0] | (uint32_t)bytes[1] << 8 | (uint32_t)bytes[2] << 16 | (uint32_t)bytes[3] << 24;
+    if (ferror(file) || (got != 0 && got != 4)) count = -1;
+    fclose(file);
+    return count;
+}
+
+static int show_read(struct state *s, const uint32_t *list, size_t length) {
+    const struct state before = *s;
+    uint64_t answer = pica_read(LENT(s), list, length);
+    if (!answered("read", answer)) {
+        printf("state: %s\n", memcmp(&before, s, sizeof before) == 0 ? "as it was" : "changed");
+        return 0;
+    }
+    printf("read: %u writes from %u words\n", (unsigned)pica_value(answer), (unsigned)length);
+    return 1;
+}
+
+static int show_fields(const struct state *s) {
+    static const struct {
+        const char *name;
+        enum pica_field field;
+    } shown[] = {
+        {"culling", PICA_FIELD_CULLING},
+        {"viewport width", PICA_FIELD_VIEWPORT_WIDTH},
+        {"viewport xy x", PICA_FIELD_VIEWPORT_XY_X},
+        {"depth map enable", PICA_FIELD_DEPTHMAP_ENABLE},
+        {"stage 0 source rgb0", PICA_FIELD_STAGE0_SOURCE_RGB0},
+        {"stage 0 combiner rgb", PICA_FIELD_STAGE0_COMBINER_RGB},
+        {"stage 5 source rgb0", PICA_FIELD_STAGE5_SOURCE_RGB0},
+        {"fog colour red", PICA_FIELD_FOG_COLOUR_RED},
+        {"fog index", PICA_FIELD_FOG_INDEX},
+        {"buffer colour alpha", PICA_FIELD_BUFFER_COLOUR_ALPHA},
+        {"logic operation", PICA_FIELD_BLENDING_LOGIC_OP},
+        {"alpha test function", PICA_FIELD_TESTS_ALPHA_FUNCTION},
+        {"alpha test reference", PICA_FIELD_TESTS_ALPHA_REFERENCE},
+        {"depth test function", PICA_FIELD_TESTS_DEPTH_FUNCTION},
+        {"depth format", PICA_FIELD_BUFFERS_DEPTH_FORMAT},
+        {"light port index", PICA_FIELD_LIGHT_PORT_INDEX},
+    };
+    uint32_t fields[PICA_FIELDS];
+    if (!answered("decode", pica_decode(LENT(s), fields))) return 0;
+    /* The signed fields come in two's complement, and no unsigned one that is shown is too large for an int. */
+    for (size_t k = 0; k < sizeof shown / sizeof *shown; k++) printf("  %s %d\n", shown[k].name, (int)(int32_t)fields[shown[k].field]);
+    printf("  fog entry 127 %u\n", (unsigned)s->fog[127]);
+    printf("  light table 0, entry 128 %u\n", (unsigned)s->light[128]);
+    return 1;
+}
+
+/* A run that no packer gets right who takes the longest command first: the second write must open the rising one. */
+static int show_packing(void) {
+    static const uint32_t ids[] = {0x41, 0x41, 0x42, 0x43}, masks[] = {15, 15, 15, 15}, values[] = {1, 2, 3, 4};
+    uint32_t space[8];
+    uint64_t answer = pica_pack(ids, 4, masks, 4, values, 4, space, 4);
+    (void)answered("pack into 4 words", answer);
+    if (pica_number(answer) != PICA_NO_ROOM || pica_value(answer) > 8) return 0;
+    answer = pica_pack(ids, 4, masks, 4, values, 4, space, pica_value(answer));
+    if (!answered("pack", answer)) return 0;
+    printf("pack: 4 writes in %u words:", (unsigned)pica_value(answer));
+    for (uint32_t k = 0; k < pica_value(answer); k++) printf(" %08X", (unsigned)space[k]);
+    printf("\n");
+    return 1;
+}
+
+static uint32_t colour(uint32_t red, uint32_t green, uint32_t blue, uint32_t alpha) { return red | green << 8 | blue << 16 | alpha << 24; }
+
+static int show_fragment(const struct state *s) {
+    static const char *const verdicts[] = {"alpha failure", "stencil failure", "depth failure", "pass"};
+    uint32_t given[PICA_GIVEN] = {0}, stored[PICA_STORED];
+    given[PICA_GIVEN_PRIMARY] = colour(255, 128, 64, 255);
+    given[PICA_GIVEN_TEXTURE0] = colour(200, 128, 255, 192);
+    given[PICA_GIVEN_INCOMING_DEPTH] = 4000000;
+    given[PICA_GIVEN_STORED_COLOUR] = colour(10, 20, 30, 40);
+    given[PICA_GIVEN_STORED_STENCIL] = 5;
+    given[PICA_GIVEN_STORED_DEPTH] = 16777215;
+    uint64_t answer = pica_fragment(LENT(s), given, stored);
+    if (!answered("fragment", answer)) return 0;
+    uint32_t c = stored[PICA_STORED_COLOUR];
+    printf("fragment: %s\n", verdicts[pica_value(answer)]);
+    printf("  stored colour %u %u %u %u\n", (unsigned)(c & 255), (unsigned)(c >> 8 & 255), (unsigned)(c >> 16 & 255), (unsigned)(c >> 24));
+    printf("  stored stencil %u\n", (unsigned)stored[PICA_STORED_STENCIL]);
+    printf("  stored depth %u\n", (unsigned)stored[PICA_STORED_DEPTH]);
+    return 1;
+}
+
+int main(int argc, char **argv) {
+    static uint32_t list[MOST_LOADED];
+    static struct state s;
+    if (argc != 2) {
+        fprintf(stderr, "usage: forecast FILE\n");
+        return 2;
+    }
+    long length = load(argv[1], list);
+    if (length < 0) {
+        fprintf(stderr, "forecast: %s is no list of words\n", argv[1]);
+        return 2;
+    }
+    return show_read(&s, list, (size_t)length) && show_fields(&s) && show_packing() && show_fragment(&s) ? 0 : 1;
+}

@@ -1,0 +1,110 @@
+//! Structured cases: most are answered, the rest are refused for a chosen
+//! reason, and every choice leans on the borders of the document's rules.
+
+mod lists;
+mod states;
+mod words;
+mod writes;
+
+use crate::memory::{Memory, STATE_LENGTHS};
+use crate::model::FIELD_COUNT;
+use crate::random::Random;
+
+#[derive(Clone, Copy, Debug, PartialEq, Eq)]
+pub enum Kind {
+    Read,
+    Write,
+    Pack,
+    Decode,
+    Fragment,
+}
+
+pub const KINDS: [(Kind, &str); 5] = [
+    (Kind::Read, "read"),
+    (Kind::Write, "write"),
+    (Kind::Pack, "pack"),
+    (Kind::Decode, "decode"),
+    (Kind::Fragment, "fragment"),
+];
+
+/// A call: its kind, the lengths of what it is lent, and its plain arguments.
+/// The words themselves lie in `Memory`.
+#[derive(Clone, Debug)]
+pub struct Case {
+    pub kind: Kind,
+    pub state: [usize; 3],
+    pub lent: Vec<usize>,
+    pub write: [u32; 3],
+}
+
+/// Fills the whole state with garbage; cases then change parts of it.
+pub fn fresh_state(random: &mut Random, memory: &mut Memory) {
+    random.fill(&mut memory.state);
+}
+
+pub fn next_case(random: &mut Random, memory: &mut Memory) -> Case {
+    let kind = match random.below(20) {
+        0..=7 => Kind::Read,
+        8..=10 => Kind::Write,
+        11..=13 => Kind::Pack,
+        14..=15 => Kind::Decode,
+        _ => Kind::Fragment,
+    };
+    let mut case = Case {
+        kind,
+        state: STATE_LENGTHS,
+        lent: Vec::new(),
+        write: words::single_write(random),
+    };
+    case.lent = lend(random, kind, memory);
+    choose_lengths(random, &mut case);
+    case
+}
+
+/// Prepares the state and lays out the other buffers; gives their lengths.
+fn lend(random: &mut Random, kind: Kind, memory: &mut Memory) -> Vec<usize> {
+    match kind {
+        Kind::Read => {
+            states::set_indices(random, memory.cells());
+            lists::lend_list(random, memory)
+        }
+        Kind::Write => {
+            states::set_indices(random, memory.cells());
+            memory.lend(random, &[]);
+            Vec::new()
+        }
+        Kind::Pack => writes::lend_writes(random, memory),
+        Kind::Decode => {
+            states::set_decodable(random, memory.cells());
+            let mut fields = [0; FIELD_COUNT];
+            random.fill(&mut fields);
+            memory.lend(random, &[&fields]);
+            vec![FIELD_COUNT]
+        }
+        Kind::Fragment => {
+            states::set_drawable(random, memory.cells());
+            let given = states::given(random, memory.cells());
+            let stored = [random.word(), random.word(), random.word()];
+            memory.lend(random, &[&given, &stored]);
+            vec![11, 3]
+        }
+    }
+}
+
+/// A long list is lent to a wrong state more often, since the order of its
+/// two refusals shows only there.
+fn choose_lengths(random: &mut Random, case: &mut Case) {
+    let long = case.kind == Kind::Read && case.lent[0] > 65_000;
+    if !random.chance(1, if long { 3 } else { 40 }) {
+        return;
+    }
+    let which = random.below(3) as usize;
+    match random.below(6) {
+        0 => case.state[which] -= 1,
+        1 => case.state[which] += 1,
+        2 => case.state[which] = 0,
+        3 => case.state.swap(which, (which + 1) % 3),
+        4 => case.state.rotate_left(1),
+        _ => case.state = [0; 3],
+    }
+}

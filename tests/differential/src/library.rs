@@ -1,0 +1,143 @@
+//! The library under test, through its C functions.
+
+use crate::machine::{Lent, Machine};
+use crate::model::FIELD_COUNT;
+
+extern "C" {
+    fn pica_read(
+        cells: *mut u32,
+        cells_length: usize,
+        fog: *mut u32,
+        fog_length: usize,
+        light: *mut u32,
+        light_length: usize,
+        list: *const u32,
+        list_length: usize,
+    ) -> u64;
+    fn pica_write(
+        cells: *mut u32,
+        cells_length: usize,
+        fog: *mut u32,
+        fog_length: usize,
+        light: *mut u32,
+        light_length: usize,
+        id: u32,
+        mask: u32,
+        value: u32,
+    ) -> u64;
+    fn pica_pack(
+        ids: *const u32,
+        ids_length: usize,
+        masks: *const u32,
+        masks_length: usize,
+        values: *const u32,
+        values_length: usize,
+        space: *mut u32,
+        space_length: usize,
+    ) -> u64;
+    fn pica_decode(
+        cells: *const u32,
+        cells_length: usize,
+        fog: *const u32,
+        fog_length: usize,
+        light: *const u32,
+        light_length: usize,
+        fields: *mut u32,
+    ) -> u64;
+    fn pica_fragment(
+        cells: *const u32,
+        cells_length: usize,
+        fog: *const u32,
+        fog_length: usize,
+        light: *const u32,
+        light_length: usize,
+        given: *const u32,
+        stored: *mut u32,
+    ) -> u64;
+}
+
+// SAFETY, for every call below: each pointer and its length come from one
+// slice or array that outlives the call, and no two of them overlap.
+
+fn read([cells, fog, light]: Lent, list: &mut [u32]) -> u64 {
+    unsafe {
+        pica_read(
+            cells.as_mut_ptr(),
+            cells.len(),
+            fog.as_mut_ptr(),
+            fog.len(),
+            light.as_mut_ptr(),
+            light.len(),
+            list.as_mut_ptr(),
+            list.len(),
+        )
+    }
+}
+
+fn write([cells, fog, light]: Lent, [id, mask, value]: [u32; 3]) -> u64 {
+    unsafe {
+        pica_write(
+            cells.as_mut_ptr(),
+            cells.len(),
+            fog.as_mut_ptr(),
+            fog.len(),
+            light.as_mut_ptr(),
+            light.len(),
+            id,
+            mask,
+            value,
+        )
+    }
+}
+
+fn pack([ids, masks, values]: Lent, space: &mut [u32]) -> u64 {
+    unsafe {
+        pica_pack(
+            ids.as_mut_ptr(),
+            ids.len(),
+            masks.as_mut_ptr(),
+            masks.len(),
+            values.as_mut_ptr(),
+            values.len(),
+            space.as_mut_ptr(),
+            space.len(),
+        )
+    }
+}
+
+fn decode([cells, fog, light]: Lent, fields: &mut [u32; FIELD_COUNT]) -> u64 {
+    unsafe {
+        pica_decode(
+            cells.as_mut_ptr(),
+            cells.len(),
+            fog.as_mut_ptr(),
+            fog.len(),
+            light.as_mut_ptr(),
+            light.len(),
+            fields.as_mut_ptr(),
+        )
+    }
+}
+
+fn fragment([cells, fog, light]: Lent, given: &mut [u32; 11], stored: &mut [u32; 3]) -> u64 {
+    unsafe {
+        pica_fragment(
+            cells.as_mut_ptr(),
+            cells.len(),
+            fog.as_mut_ptr(),
+            fog.len(),
+            light.as_mut_ptr(),
+            light.len(),
+            given.as_mut_ptr(),
+            stored.as_mut_ptr(),
+        )
+    }
+}
+
+pub const LIBRARY: Machine = Machine {
+    read,
+    write,
+    pack,
+    decode,
+    fragment,
+};

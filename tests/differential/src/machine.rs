@@ -1,0 +1,34 @@
+//! The five calls, of the library or of a model, behind one form.
+
+use crate::model;
+
+/// The lent state: cells, fog entries, light entries.
+pub type Lent<'a> = [&'a mut [u32]; 3];
+
+/// Buffers that a call only reads are lent mutably here as well: a library
+/// that wrote to them would otherwise break what the compiler takes for
+/// granted, and the comparison could miss it.
+#[derive(Clone, Copy)]
+pub struct Machine {
+    pub read: fn(Lent, &mut [u32]) -> u64,
+    pub write: fn(Lent, [u32; 3]) -> u64,
+    pub pack: fn(Lent, &mut [u32]) -> u64,
+    pub decode: fn(Lent, &mut [u32; model::FIELD_COUNT]) -> u64,
+    pub fragment: fn(Lent, &mut [u32; 11], &mut [u32; 3]) -> u64,
+}
+
+impl Machine {
+    pub fn model<const F: u32>() -> Machine {
+        Machine {
+            read: |[cells, fog, light], list| model::read::<F>(cells, fog, light, list),
+            write: |[cells, fog, light], [id, mask, value]| {
+                model::write::<F>(cells, fog, light, id, mask, value)
+            },
+            pack: |[ids, masks, values], space| model::pack::<F>(ids, masks, values, space),
+            decode: |[cells, fog, light], fields| model::decode::<F>(cells, fog, light, fields),
+            fragment: |[cells, fog, light], given, stored| {
+                model::fragment::<F>(cells, fog, light, given, stored)
+            },
+        }
+    }
+}

@@ -1,0 +1,152 @@
+//! The scope document's examples, run on the model.
+
+use super::faults::NONE;
+use super::*;
+
+struct State {
+    cells: Vec<u32>,
+    fog: Vec<u32>,
+    light: Vec<u32>,
+}
+
+impl State {
+    fn zero() -> State {
+        State {
+            cells: vec![0; CELLS],
+            fog: vec![0; FOG_ENTRIES],
+            light: vec![0; LIGHT_ENTRIES],
+        }
+    }
+
+    fn read(&mut self, list: &[u32]) -> u64 {
+        read::<NONE>(&mut self.cells, &mut self.fog, &mut self.light, list)
+    }
+
+    fn write(&mut self, id: u32, mask: u32, value: u32) -> u64 {
+        let (cells, fog, light) = (&mut self.cells, &mut self.fog, &mut self.light);
+        write::<NONE>(cells, fog, light, id, mask, value)
+    }
+
+    fn fragment(&self, given: &[u32; 11]) -> (u64, [u32; 3]) {
+        let mut stored = [0; 3];
+        let verdict = fragment::<NONE>(&self.cells, &self.fog, &self.light, given, &mut stored);
+        (verdict, stored)
+    }
+
+    /// Every stage after the first hands on what it is given; colour is copied.
+    fn drawing() -> State {
+        let mut state = State::zero();
+        for stage in [0xC8, 0xD0, 0xD8, 0xF0, 0xF8] {
+            state.cells[stage] = 0xFFF_0FFF;
+        }
+        state.cells[0x102] = 3;
+        state.cells[0x107] = 0xF00;
+        state.cells[0x113] = 0xF;
+        state.cells[0x115] = 3;
+        state.cells[0x116] = 3;
+        state.cells[0x117] = 2;
+        state
+    }
+}
+
+fn refusal(number: u64, place: u64) -> u64 {
+    number << 32 | place
+}
+
+fn packed(ids: &[u32]) -> Vec<u32> {
+    let masks = vec![0xF; ids.len()];
+    let values: Vec<u32> = (1..=ids.len() as u32).collect();
+    let mut space = vec![0; 2 * ids.len()];
+    let words = pack::<NONE>(ids, &masks, &values, &mut space);
+    space.truncate(words as usize);
+    space
+}
+
+#[test]
+fn reading() {
+    let mut state = State::zero();
+    let list = [0xAAAA_AAAA, 0x802F_011C, 0xBBBB_BBBB, 0xCCCC_CCCC];
+    assert_eq!(state.read(&list), 3);
+    assert_eq!(state.read(&[1, 0x801F_02FE, 2, 3]), 2);
+    assert_eq!(state.read(&[1, 0x802F_02FE, 2, 3]), refusal(3, 0));
+    assert_eq!(state.read(&[1, 0x801F_023B, 2, 3]), refusal(4, 0));
+    assert_eq!(state.read(&[]), 0);
+}
+
+#[test]
+fn masks() {
+    for (mask, left) in [(1, 0x71), (2, 0x1F00)] {
+        let mut state = State::zero();
+        assert_eq!(state.write(0x107, mask, 0x1F71), 0);
+        assert_eq!(state.cells[0x107], left);
+    }
+}
+
+#[test]
+fn fog_port() {
+    let mut state = State::zero();
+    state.cells[0xE6] = 127;
+    assert_eq!(state.read(&[5, 0x001F_00E8, 6, 0]), 2);
+    assert_eq!((state.fog[127], state.fog[0], state.cells[0xE6]), (5, 6, 1));
+}
+
+#[test]
+fn viewport() {
+    for (raw, value) in [(0x3FF, -1), (0x200, -512), (0x1FF, 511)] {
+        let mut state = State::zero();
+        state.cells[0x68] = raw;
+        let mut fields = [0; FIELD_COUNT];
+        assert_eq!(
+            decode::<NONE>(&state.cells, &state.fog, &state.light, &mut fields),
+            0
+        );
+        assert_eq!(fields[17] as i32, value);
+    }
+}
+
+#[test]
+fn stencil() {
+    let cases = [
+        (0xA5, 0x003C_0F11, 0x200, 0xAC),
+        (0xFF, 0x0000_FF11, 0x300, 0xFF),
+        (0xFF, 0x0000_FF11, 0x600, 0),
+    ];
+    for (before, test, operation, after) in cases {
+        let mut state = State::drawing();
+        state.cells[0x105] = test;
+        state.cells[0x106] = operation;
+        let mut given = [0; 11];
+        given[9] = before;
+        assert_eq!(state.fragment(&given), (3, [0, after, 0]));
+    }
+}
+
+#[test]
+fn combiner() {
+    let mut state = State::drawing();
+    // Primary and fragment primary; modulate, then dot3.
+    state.cells[0xC0] = 0x010_0010;
+    state.cells[0xC2] = 0x1_0001;
+    let mut given = [0; 11];
+    given[0] = 0x8080_8080;
+    given[1] = 0x8080_8080;
+    assert_eq!(state.fragment(&given).1[0], 0x4040_4040);
+    state.cells[0xC2] = 7;
+    given[0] = 0xFFFF_FFFF;
+    assert_eq!(state.fragment(&given).1[0], 0x0303_0303);
+}
+
+#[test]
+fn packing() {
+    assert_eq!(
+        packed(&[0x41, 0x41, 0x42, 0x43]),
+        [1, 0x000F_0041, 2, 0x802F_0041, 3, 4]
+    );
+    assert_eq!(
+        packed(&[0x41, 0x41, 0x42]),
+        [1, 0x001F_0041, 2, 0, 3, 0x000F_0042]
+    );
+    assert_eq!(packed(&[0x41; 256]).len(), 258);
+    assert_eq!(packed(&[0x41; 257]).len(), 260);
+    assert!(packed(&[]).is_empty());
+}
