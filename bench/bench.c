@@ -156,10 +156,11 @@ static void measure_fragment(void) {
     measure("fragment: many states", many_states, FRAGMENTS, 0);
 }
 
-int main(void) {
+int main(int count, char **words) {
     unsigned cases = compare_random();
     if (cases == 0) return 1;
-    printf("%u random cases: the same answers and buffers\n", cases);
+    printf("benchmark: %u random cases: the same answers and buffers as plain C\n", cases);
+    if (count > 1 && strcmp(words[1], "--compare") == 0) return 0;
     printf("%-56s %9s %9s %7s\n", "what", "ours ns", "plain ns", "ratio");
     measure_reading();
     measure_packing();

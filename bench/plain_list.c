@@ -28,14 +28,6 @@ static inline struct command command_of(uint32_t header) {
     return c;
 }
 
-/* The number of the first fault among the writes to the ids first..last: the faulty ranges are looked at in rising order. */
-static uint32_t fault_among(uint32_t first, uint32_t last, uint32_t mask) {
-    if (mask != 15 && ((first <= 0xEF && last >= 0xE8) || (first <= 0x1CF && last >= 0x1C8))) return PICA_PORT_MASK;
-    if (first <= 0x23D && last >= 0x23C) return PICA_JUMP_REGISTER;
-    if (last > 0x2FF) return PICA_ID_ABOVE_2FF;
-    return 0;
-}
-
 /* The number of writes, or the refusal. */
 static uint64_t judge(const uint32_t *list, size_t length) {
     size_t writes = 0;
@@ -43,8 +35,10 @@ static uint64_t judge(const uint32_t *list, size_t length) {
         if (length - at < 2) return plain_refused(PICA_WORDS_MISSING, (uint32_t)at);
         struct command c = command_of(list[at + 1]);
         if (length - at < c.words) return plain_refused(PICA_WORDS_MISSING, (uint32_t)at);
-        uint32_t number = fault_among(c.id, c.id + c.step * c.count, c.mask);
-        if (number) return plain_refused(number, (uint32_t)at);
+        for (uint32_t k = 0; k <= c.step * c.count; k++) {
+            uint32_t number = plain_fault(c.id + k, c.mask);
+            if (number) return plain_refused(number, (uint32_t)at);
+        }
         writes += c.count + 1;
         at += c.words;
     }
@@ -79,29 +73,12 @@ static inline void put_one(uint32_t *cells, uint32_t *fog, uint32_t *light, uint
     }
 }
 
-/* Many writes to one port: its index stays out of memory until the end. */
-static void put_table(uint32_t *cells, uint32_t *fog, uint32_t *light, uint32_t id, uint32_t first, const uint32_t *rest, uint32_t count) {
-    uint32_t *cell = &cells[id < 0x100 ? 0xE6 : 0x1C5];
-    uint32_t top = id < 0x100 ? 0x7F : 0xFF, table = id < 0x100 ? 0 : *cell >> 8 & 31, index = *cell & top;
-    if (table < 24 && table != 2 && table != 7) {
-        uint32_t *entries = id < 0x100 ? fog : &light[256 * table];
-        put_low_24(&entries[index], first);
-        for (uint32_t k = 0; k < count; k++) put_low_24(&entries[(index + 1 + k) & top], rest[k]);
-    }
-    *cell = (*cell & ~top) | ((index + 1 + count) & top);
-}
-
 static void apply(uint32_t *cells, uint32_t *fog, uint32_t *light, const uint32_t *list, size_t length) {
     for (size_t at = 0; at < length;) {
         struct command c = command_of(list[at + 1]);
-        const uint32_t *rest = &list[at + 2];
-        if (c.step == 0 && c.count > 0 && (c.id - 0xE8 < 8 || c.id - 0x1C8 < 8)) {
-            put_table(cells, fog, light, c.id, list[at], rest, c.count);
-        } else {
-            uint32_t bytes = spread(c.mask), id = c.id;
-            put_one(cells, fog, light, id, bytes, list[at]);
-            for (uint32_t k = 0; k < c.count; k++) put_one(cells, fog, light, id += c.step, bytes, rest[k]);
-        }
+        uint32_t bytes = spread(c.mask), id = c.id;
+        put_one(cells, fog, light, id, bytes, list[at]);
+        for (uint32_t k = 0; k < c.count; k++) put_one(cells, fog, light, id += c.step, bytes, list[at + 2 + k]);
         at += c.words;
     }
 }

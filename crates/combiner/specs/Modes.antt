@@ -28,7 +28,7 @@ multipliedAdded a b c = toByte ((a * b + 255 * c) / 255)
 abbrev pub addedMultiplied : ℕ → ℕ → ℕ → ℕ
 addedMultiplied a b c = added a b * c / 255
 
--- by code, 0 replace to 9 add then multiply; 6 and 7 take the stage's dot3. Codes above 9 have no name: they are refused before a stage is run
+-- by code, 0 replace to 9 add then multiply; 6 and 7 take the stage's dot3. Codes above 9 have no name and are taken as 9; `draw` refuses a state that holds one
 unfoldable pub combined : ℕ → ℕ → ℕ → ℕ → ℕ → ℕ
 combined mode a b c dot =
     getD

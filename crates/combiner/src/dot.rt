@@ -30,7 +30,7 @@ fn at_least_zero(total: i32) -> u32
     if total < 0 { 0 } else { total as u32 }
 }
 
-// The total is clamped first, so that its sign needs no branch.
+// The total is held to zero before it is divided: the division is of numbers that are not negative.
 fn clamp(total: i32) -> u8
     requires { ⌜ natAbs total ≤ 195075 ⌝ }
     ensures { λ r. ⌜ r ≡ clamped total ⌝ }

@@ -103,7 +103,7 @@ drawnFrom (decoded.Held s) g incoming stored = drawnWith s g incoming stored
 abbrev pub drawnOf : State → Given → ℕ → Stored → Drawn
 drawnOf s g incoming stored = drawnFrom (decodedOf s) g incoming stored
 
--- the document's number and values for each case: 0, the verdict's number, and the colour, stencil and depth that are then stored; a refusal's number and its place
+-- the number and values for each case: 0, the verdict's number (the C paper's), and the colour, stencil and depth that are then stored; a refusal's number and its place
 abbrev pub numberOf : Drawn → ℕ
 numberOf (Done o) = 0
 numberOf (Refused r) = r .number
