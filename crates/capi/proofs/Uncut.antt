@@ -1,0 +1,212 @@
+-- No answer and no place is cut by the low 32 bits of a call: none is above 65,536. Assumes nothing.
+use mathlib.Core.Path.{_≡_, refl, sym, _∙_}
+use mathlib.Core.Bool.{Bool, true, false, _&&_}
+use mathlib.Core.List.{List, [], _∷_}
+use Prim.Native.Nat.{ℕ, zero, suc, _+_, _-_, _*_, _≤_, _<_}
+use native.Mathlib.Omega.{arith}
+use lib.Dec.{ltb, leb, eqb}
+use lib.ListN.{length}
+use borrow.Author.Tests.{ltb-true, leb-true, eqb-true}
+use Rattle.numbers.specs.Pick.{pick}
+use Rattle.numbers.specs.Answer.{Answer, answered, refused}
+use Rattle.numbers.proofs.Tests.{and-true}
+use Rattle.words.specs.Header.{countOf, wordsOf}
+use Rattle.words.specs.Writes.{Write}
+use Rattle.words.specs.Commands.{headerAt, whole, expand, places, commands}
+use Rattle.words.proofs.Laws.{run-length}
+use Rattle.registers.specs.State.{State, sized}
+use Rattle.registers.specs.Single.{atZero, refusalOf, writeAnswer}
+use Rattle.reader.specs.Verdict.{firstFault, commandFault, unlessFault, judge, verdict}
+use Rattle.reader.specs.Read.{readAnswer}
+use Rattle.runs.specs.Packed.{writes, packed}
+use Rattle.runs.proofs.Packed.{packed-short}
+use Rattle.runs.proofs.Writes.{writes-length}
+use Rattle.packer.specs.Given.{wrong, firstWrong, checkAnswer}
+use Rattle.packer.specs.Packing.{ifRoom, andThen, packAnswer}
+use Rattle.packer.proofs.Given.{check-given}
+use Rattle.decode.specs.Codes.{Check, stageChecks, frameChecks, checks, firstOf, lowest}
+use Rattle.decode.specs.Decoded.{settingsOf, namelessId, refusal, decodedOf}
+use Rattle.decode.specs.declared.records.Settings.{Settings}
+use Rattle.decode.specs.declared.Decoded.{Decoded}
+use Rattle.decode.specs.declared.Decoded.the-variants as decoded
+use Rattle.combiner.specs.declared.Given.{Given}
+use Rattle.fragment.specs.Tests.{verdictNumber}
+use Rattle.fragment.specs.Drawn.{outcomeOf, fogUnbuilt, operationUnbuilt, formatUnbuilt, largest, unbuiltId, drawnWith, drawnFrom, drawnOf}
+use Rattle.fragment.specs.Drawn as cuts
+use Rattle.fragment.specs.declared.Verdict.{Verdict}
+use Rattle.fragment.specs.declared.Verdict.the-variants as verdicts
+use Rattle.fragment.specs.declared.Stored.{Stored}
+use Rattle.fragment.specs.declared.Drawn.{Drawn}
+use Rattle.fragment.specs.declared.Drawn.the-variants as drawn
+use Rattle.capi.specs.Calls.{call}
+
+-- what a call's low 32 bits are to hold
+abbrev pub valueIn : Answer → ℕ
+valueIn (answered n) = n
+valueIn (refused r p) = p
+
+-- so a call has it whole
+pub uncut : (number value : ℕ) → value ≤ 65536 → call number value ≡ number * 0x100000000 + value
+uncut number value h = omega arith
+
+-- READING
+
+-- a command without a fault has all its words
+fits : (l : List ℕ) (at x : ℕ) (b : Bool) → whole l at ≡ b → pick b x 2 ≡ 0 → at + wordsOf (headerAt l at) ≤ length l
+fits l at x true e p = leb-true _ _ e
+fits l at x false e p = absurd (omega arith)
+
+by-fault : (l : List ℕ) (at f : ℕ) (rest : Answer) → commandFault l at ≡ f → at ≤ length l
+    → (at + wordsOf (headerAt l at) ≤ length l → valueIn rest ≤ length l) → valueIn (unlessFault f at rest) ≤ length l
+by-fault l at zero rest e h more = more (fits l at (firstFault (expand l at)) (whole l at) refl e)
+by-fault l at (suc f) rest e h more = h
+
+by-place : (l ps : List ℕ) (at n : ℕ) (b : Bool) → ltb at (length l) ≡ b → n ≤ length l
+    → (at < length l → valueIn (judge l (at ∷ ps) n) ≤ length l) → valueIn (judge l (pick b (at ∷ ps) []) n) ≤ length l
+unfolding judge
+by-place l ps at n true e h more = more (ltb-true _ _ e)
+by-place l ps at n false e h more = h
+
+judged : (l : List ℕ) (k at n : ℕ) → n ≤ at → n ≤ length l → valueIn (judge l (places k l at) n) ≤ length l
+unfolding judge places
+judged l zero at n h g = g
+judged l (suc k) at n h g =
+    let w = wordsOf (headerAt l at) in
+    let m = length (expand l at) in
+    let e : m ≡ countOf (headerAt l at) + 1 = run-length l at _ _ _ in
+    by-place l (places k l (at + w)) at n (ltb at (length l)) refl g
+    (λ below. by-fault l at (commandFault l at) (judge l (places k l (at + w)) (n + m)) refl (omega arith)
+    (λ inside. judged l k (at + w) (n + m) (omega arith) (omega arith)))
+
+pub verdict-uncut : (l : List ℕ) → valueIn (verdict l) ≤ length l
+unfolding verdict commands
+verdict-uncut l = judged l (length l - 0) 0 0 (omega arith) (omega arith)
+
+by-length : (l : List ℕ) (sz : Bool) (b : Bool) → leb (length l) 65536 ≡ b
+    → valueIn (pick sz (pick b (verdict l) (refused 1 0)) (refused 6 0)) ≤ 65536
+by-length l true true e = let h : length l ≤ 65536 = leb-true _ _ e in omega (arith, verdict-uncut l)
+by-length l true false e = omega arith
+by-length l false b e = omega arith
+
+pub read-uncut : (s : State) (l : List ℕ) → valueIn (readAnswer s l) ≤ 65536
+unfolding readAnswer
+read-uncut s l = by-length l (sized s) (leb (length l) 65536) refl
+
+-- ONE WRITE
+
+at-zero : (n : ℕ) → valueIn (atZero n) ≡ 0
+at-zero zero = refl
+at-zero (suc n) = refl
+
+pub write-uncut : (s : State) (w : Write) → valueIn (writeAnswer s w) ≤ 65536
+write-uncut s w = omega (arith, at-zero (refusalOf s w))
+
+-- PACKING
+
+unless-wrong : (f p b : ℕ) (rest : Answer) → p ≤ b → valueIn rest ≤ b → valueIn (unlessFault f p rest) ≤ b
+unless-wrong zero p b rest h g = g
+unless-wrong (suc f) p b rest h g = h
+
+wrong-uncut : (i : ℕ) (ws : List Write) → valueIn (firstWrong i ws) ≤ i + length ws
+unfolding firstWrong
+wrong-uncut i [] = omega arith
+wrong-uncut i (w ∷ ws) =
+    unless-wrong (wrong (w .id) (w .mask)) i (i + suc (length ws)) (firstWrong (i + 1) ws) (omega arith) (omega (arith, wrong-uncut (i + 1) ws))
+
+by-level : (is ms vs : List ℕ) (a b : Bool) → (eqb (length is) (length ms) && eqb (length is) (length vs)) ≡ a → leb (length is) 4096 ≡ b
+    → valueIn (pick a (pick b (firstWrong 0 (writes is ms vs)) (refused 8 0)) (refused 7 0)) ≤ 65536
+by-level is ms vs true true e f =
+    let g = and-true (eqb (length is) (length ms)) (eqb (length is) (length vs)) e in
+    let n = writes-length is ms vs (eqb-true _ _ (g .0)) (eqb-true _ _ (g .1)) in
+    let few : length is ≤ 4096 = leb-true _ _ f in omega (arith, wrong-uncut 0 (writes is ms vs), n)
+by-level is ms vs true false e f = omega arith
+by-level is ms vs false b e f = omega arith
+
+check-uncut : (is ms vs : List ℕ) → valueIn (checkAnswer is ms vs) ≤ 65536
+unfolding checkAnswer
+check-uncut is ms vs = by-level is ms vs (eqb (length is) (length ms) && eqb (length is) (length vs)) (leb (length is) 4096) refl refl
+
+room-value : (l : List ℕ) (room : ℕ) (b : Bool) → valueIn (pick b (answered (length l)) (refused 10 (length l))) ≡ length l
+room-value l room true = refl
+room-value l room false = refl
+
+by-check : (is ms vs : List ℕ) (room : ℕ) (a : Answer) → checkAnswer is ms vs ≡ a
+    → valueIn (andThen a (ifRoom (packed (writes is ms vs)) room)) ≤ 65536
+by-check is ms vs room (answered n) e =
+    let g = check-given is ms vs n e in
+    let ws = writes is ms vs in
+    let l = writes-length is ms vs (g .masks) (g .values) in
+    omega (arith, room-value (packed ws) room (leb (length (packed ws)) room), packed-short ws, l, g .few)
+by-check is ms vs room (refused r p) e = let h : valueIn (checkAnswer is ms vs) ≤ 65536 = check-uncut is ms vs in rw e at h
+
+pub pack-uncut : (is ms vs : List ℕ) (room : ℕ) → valueIn (packAnswer is ms vs room) ≤ 65536
+unfolding packAnswer
+pack-uncut is ms vs room = by-check is ms vs room (checkAnswer is ms vs) refl
+
+-- DECODING AND DRAWING
+
+all-below : ℕ → List Check → Bool
+all-below n [] = true
+all-below n (c ∷ cs) = leb (c .id) n && all-below n cs
+
+pick-below : (b : Bool) (x y n : ℕ) → x ≤ n → y ≤ n → pick b x y ≤ n
+pick-below true x y n h g = h
+pick-below false x y n h g = g
+
+first-below : (n rest : ℕ) (cs : List Check) → all-below n cs ≡ true → rest ≤ n → firstOf cs rest ≤ n
+unfolding firstOf all-below
+first-below n rest [] e h = h
+first-below n rest (c ∷ cs) e h =
+    let g = and-true (leb (c .id) n) (all-below n cs) e in pick-below (c .lacks) (c .id) (firstOf cs rest) n (leb-true _ _ (g .0)) (first-below n rest cs (g .1) h)
+
+lowest-below : (s : Settings) → lowest (checks s) ≤ 0x117
+unfolding checks stageChecks frameChecks all-below
+lowest-below s = first-below 0x117 0 (checks s) refl (omega arith)
+
+abbrev pub placeOf : Decoded → ℕ
+placeOf (decoded.Held s) = 0
+placeOf (decoded.Refused r) = r .place
+
+by-code : (s : State) (a b : Bool) → placeOf (pick a (pick b (decoded.Held (settingsOf s)) (refusal 13 (namelessId s))) (refusal 6 0)) ≤ 0x117
+by-code s true true = omega arith
+by-code s true false = lowest-below (settingsOf s)
+by-code s false b = omega arith
+
+pub decode-uncut : (s : State) → placeOf (decodedOf s) ≤ 0x117
+unfolding decodedOf
+decode-uncut s = by-code s (sized s) (eqb (namelessId s) 0)
+
+-- the verdict, or the place
+abbrev pub drawnValue : Drawn → ℕ
+drawnValue (drawn.Done o) = verdictNumber (o .verdict)
+drawnValue (drawn.Refused r) = r .place
+
+verdict-below : (v : Verdict) → verdictNumber v ≤ 3
+verdict-below verdicts.AlphaFails = omega arith
+verdict-below verdicts.StencilFails = omega arith
+verdict-below verdicts.DepthFails = omega arith
+verdict-below verdicts.Passes = omega arith
+
+unbuilt-below : (s : Settings) → unbuiltId s ≤ 0x117
+unfolding unbuiltId
+unbuilt-below s =
+    pick-below (fogUnbuilt (s .«buffer_fog» .update)) 0xE0 _ 0x117 (omega arith)
+    (pick-below (operationUnbuilt (s .framebuffer .blending .operation)) 0x100 _ 0x117 (omega arith)
+    (pick-below (formatUnbuilt (s .framebuffer .buffers .«colour_format»)) 0x117 0 0x117 (omega arith) (omega arith)))
+
+by-depth : (s : Settings) (g : Given) (incoming : ℕ) (stored : Stored) (a b c : Bool)
+    → drawnValue (pick a (pick b (cuts.refusal 12 0) (pick c (cuts.refusal 12 1) (drawn.Done (outcomeOf s g incoming stored)))) (cuts.refusal 14 (unbuiltId s))) ≤ 0x117
+by-depth s g incoming stored true true c = omega arith
+by-depth s g incoming stored true false true = omega arith
+by-depth s g incoming stored true false false = omega (arith, verdict-below (outcomeOf s g incoming stored .verdict))
+by-depth s g incoming stored false b c = unbuilt-below s
+
+by-decoded : (d : Decoded) (g : Given) (incoming : ℕ) (stored : Stored) → placeOf d ≤ 0x117 → drawnValue (drawnFrom d g incoming stored) ≤ 0x117
+unfolding drawnFrom drawnWith
+by-decoded (decoded.Refused r) g incoming stored h = h
+by-decoded (decoded.Held s) g incoming stored h =
+    let top = largest (s .framebuffer .buffers .«depth_format») in
+    by-depth s g incoming stored (eqb (unbuiltId s) 0) (ltb top incoming) (ltb top (stored .depth))
+
+pub fragment-uncut : (s : State) (g : Given) (incoming : ℕ) (stored : Stored) → drawnValue (drawnOf s g incoming stored) ≤ 0x117
+fragment-uncut s g incoming stored = by-decoded (decodedOf s) g incoming stored (decode-uncut s)
