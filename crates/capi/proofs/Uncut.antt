@@ -26,7 +26,7 @@ use Rattle.packer.specs.Packing.{ifRoom, andThen, packAnswer}
 use Rattle.packer.proofs.Given.{check-given}
 use Rattle.decode.specs.Codes.{Check, stageChecks, frameChecks, checks, firstOf, lowest}
 use Rattle.decode.specs.Decoded.{settingsOf, namelessId, refusal, decodedOf}
-use Rattle.decode.specs.declared.records.Settings.{Settings}
+use Rattle.settings.specs.declared.records.Settings.{Settings}
 use Rattle.decode.specs.declared.Decoded.{Decoded}
 use Rattle.decode.specs.declared.Decoded.the-variants as decoded
 use Rattle.combiner.specs.declared.Given.{Given}

@@ -5,8 +5,8 @@ use Prim.Native.Nat.{ℕ, _+_, _*_, _/_, _%_}
 use lib.ListN.{getD}
 use Rattle.numbers.specs.Answer.{Answer, answered, refused}
 use Rattle.registers.specs.State.{State}
-use Rattle.decode.specs.Flat.{flat}
-use Rattle.decode.specs.declared.records.Colour.{Colour}
+use Rattle.settings.specs.Flat.{flat}
+use Rattle.settings.specs.declared.records.Colour.{Colour}
 use Rattle.decode.specs.declared.Decoded.{Decoded}
 use Rattle.decode.specs.declared.Decoded.the-variants as decoded
 use Rattle.combiner.specs.declared.Given.{Given}

@@ -3,8 +3,8 @@ ghost use mathlib.Core.Path.{_≡_};
 ghost use Rattle.fragment.specs.Packed.{packed};
 ghost use Rattle.capi.specs.Calls.{colourOf, givenOf, storedOf, storedWords};
 use combiner::Given;
-use decode::records::Colour;
 use fragment::Stored;
+use settings::records::Colour;
 
 fn colour_of(x: u32) -> Colour
     ensures { λ r. ⌜ r ≡ colourOf x ⌝ }

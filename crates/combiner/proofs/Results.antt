@@ -1,10 +1,10 @@
 -- The combiner's results are bytes, whatever the settings and the given colours. Assumes nothing.
 use Prim.Native.Nat.{ℕ, _≤_}
 use native.Mathlib.Omega.{arith}
-use Rattle.decode.specs.declared.records.Colour.{Colour}
-use Rattle.decode.specs.declared.records.Stage.{Stage}
-use Rattle.decode.specs.declared.records.Stages.{Stages}
-use Rattle.decode.specs.declared.records.BufferFog.{BufferFog}
+use Rattle.settings.specs.declared.records.Colour.{Colour}
+use Rattle.settings.specs.declared.records.Stage.{Stage}
+use Rattle.settings.specs.declared.records.Stages.{Stages}
+use Rattle.settings.specs.declared.records.BufferFog.{BufferFog}
 use Rattle.combiner.specs.Stage.{alphaMixed, stageOf}
 use Rattle.combiner.specs.Chain.{resultOf, combinerOf}
 use Rattle.combiner.specs.declared.Given.{Given}

@@ -2,10 +2,10 @@
 use Prim.Native.Nat.{ℕ}
 use lib.Dec.{eqb}
 use Rattle.numbers.specs.Pick.{pick}
-use Rattle.decode.specs.declared.records.Colour.{Colour}
-use Rattle.decode.specs.declared.records.Stage.{Stage}
-use Rattle.decode.specs.declared.records.Stages.{Stages}
-use Rattle.decode.specs.declared.records.BufferFog.{BufferFog}
+use Rattle.settings.specs.declared.records.Colour.{Colour}
+use Rattle.settings.specs.declared.records.Stage.{Stage}
+use Rattle.settings.specs.declared.records.Stages.{Stages}
+use Rattle.settings.specs.declared.records.BufferFog.{BufferFog}
 use Rattle.combiner.specs.Operands.{black, byCode, sourcesOf}
 use Rattle.combiner.specs.Stage.{stageOf}
 use Rattle.combiner.specs.declared.Given.{Given}

@@ -4,8 +4,8 @@ use Prim.Native.Nat.{ℕ, _-_, _/_, _%_}
 use lib.ListN.{getD}
 use lib.Dec.{eqb}
 use Rattle.numbers.specs.Pick.{pick}
-use Rattle.decode.specs.declared.records.Colour.{Colour}
-use Rattle.decode.specs.declared.records.Source.{Source}
+use Rattle.settings.specs.declared.records.Colour.{Colour}
+use Rattle.settings.specs.declared.records.Source.{Source}
 use Rattle.combiner.specs.declared.Given.{Given}
 use Rattle.combiner.specs.declared.Seen.{Seen}
 use Rattle.combiner.specs.declared.dot.Rgb.{Rgb}

@@ -2,8 +2,8 @@
 use Prim.Native.Nat.{ℕ}
 use lib.Dec.{eqb}
 use Rattle.numbers.specs.Pick.{pick}
-use Rattle.decode.specs.declared.records.Colour.{Colour}
-use Rattle.decode.specs.declared.records.Stage.{Stage}
+use Rattle.settings.specs.declared.records.Colour.{Colour}
+use Rattle.settings.specs.declared.records.Stage.{Stage}
 use Rattle.combiner.specs.Modes.{combined, scaled}
 use Rattle.combiner.specs.Dot.{dot3Of}
 use Rattle.combiner.specs.Operands.{rgbOperand, alphaOperand}

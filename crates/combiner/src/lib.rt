@@ -1,10 +1,10 @@
 // The combiner: six stages, each of which may read what the stages before it gave. The contracts cite specs/Chain.antt.
 ghost use mathlib.Core.Path.{_≡_};
 ghost use Rattle.combiner.specs.Chain.{resultOf, bufferAfter, seenAfter, combinerOf};
-use decode::records::BufferFog;
-use decode::records::Colour;
-use decode::records::Stage;
-use decode::records::Stages;
+use settings::records::BufferFog;
+use settings::records::Colour;
+use settings::records::Stage;
+use settings::records::Stages;
 
 mod dot;
 mod modes;

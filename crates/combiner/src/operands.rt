@@ -5,8 +5,8 @@ ghost use Rattle.combiner.specs.Operands.{byCode, sourcesOf, oneMinus, r
 use crate::Given;
 use crate::Seen;
 use crate::dot::Rgb;
-use decode::records::Colour;
-use decode::records::Source;
+use settings::records::Colour;
+use settings::records::Source;
 
 // The colours that a stage's source codes name.
 pub struct Sources {

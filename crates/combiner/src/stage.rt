@@ -6,8 +6,8 @@ use crate::dot::Rgb;
 use crate::modes;
 use crate::operands;
 use crate::operands::Sources;
-use decode::records::Colour;
-use decode::records::Stage;
+use settings::records::Colour;
+use settings::records::Stage;
 
 fn mix_rgb(mode: u32, scale: u32, a: Rgb, b: Rgb, c: Rgb, dot: u8) -> Rgb
     ensures { λ r. ⌜ r ≡ rgbMixed mode scale a b c dot ⌝ }

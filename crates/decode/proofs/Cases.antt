@@ -5,7 +5,7 @@ use Prim.Native.Nat.{ℕ}
 use borrow.Author.Tests.{eq-eqb, ne-eqb}
 use Rattle.registers.specs.State.{State, sized}
 use Rattle.decode.specs.Decoded.{settingsOf, namelessId, refusal, decodedOf}
-use Rattle.decode.specs.declared.records.Settings.{Settings}
+use Rattle.settings.specs.declared.records.Settings.{Settings}
 use Rattle.decode.specs.declared.Decoded.the-variants.{Held}
 
 module _ (s : State) where

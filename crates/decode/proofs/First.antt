@@ -4,7 +4,7 @@ use mathlib.Core.List.{List, [], _∷_, _++_}
 use Prim.Native.Nat.{ℕ}
 use Rattle.numbers.specs.Pick.{pick}
 use Rattle.decode.specs.Codes.{Check, updateLacks, stageChecks, frameChecks, checks, firstOf, lowest}
-use Rattle.decode.specs.declared.records.Settings.{Settings}
+use Rattle.settings.specs.declared.records.Settings.{Settings}
 
 pub first-append : (xs ys : List Check) (rest : ℕ) → firstOf (xs ++ ys) rest ≡ firstOf xs (firstOf ys rest)
 unfolding firstOf

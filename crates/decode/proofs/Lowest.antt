@@ -11,7 +11,7 @@ use Rattle.numbers.proofs.Tests.{both}
 use Rattle.registers.specs.State.{State, sized}
 use Rattle.decode.specs.Codes.{Check, check, stageChecks, frameChecks, checks, firstOf, lowest, lacksAt}
 use Rattle.decode.specs.Decoded.{numberOf, valuesOf, settingsOf, nameless, namelessId, refusal, decodedOf}
-use Rattle.decode.specs.declared.records.Settings.{Settings}
+use Rattle.settings.specs.declared.records.Settings.{Settings}
 use Rattle.decode.specs.declared.Decoded.the-variants.{Held}
 
 -- ids rise from above n

@@ -4,17 +4,17 @@ use mathlib.Core.List.{List, [], _∷_, _++_}
 use Prim.Native.Nat.{ℕ, _+_}
 use lib.Dec.{eqb, leb, ltb}
 use Rattle.numbers.specs.Pick.{pick, within}
-use Rattle.decode.specs.declared.records.Source.{Source}
-use Rattle.decode.specs.declared.records.Operand.{Operand}
-use Rattle.decode.specs.declared.records.Combiner.{Combiner}
-use Rattle.decode.specs.declared.records.Scale.{Scale}
-use Rattle.decode.specs.declared.records.Stage.{Stage}
-use Rattle.decode.specs.declared.records.UpdateBuffer.{UpdateBuffer}
-use Rattle.decode.specs.declared.records.ColourOperation.{ColourOperation}
-use Rattle.decode.specs.declared.records.BlendFunction.{BlendFunction}
-use Rattle.decode.specs.declared.records.ColourFormat.{ColourFormat}
-use Rattle.decode.specs.declared.records.Framebuffer.{Framebuffer}
-use Rattle.decode.specs.declared.records.Settings.{Settings}
+use Rattle.settings.specs.declared.records.Source.{Source}
+use Rattle.settings.specs.declared.records.Operand.{Operand}
+use Rattle.settings.specs.declared.records.Combiner.{Combiner}
+use Rattle.settings.specs.declared.records.Scale.{Scale}
+use Rattle.settings.specs.declared.records.Stage.{Stage}
+use Rattle.settings.specs.declared.records.UpdateBuffer.{UpdateBuffer}
+use Rattle.settings.specs.declared.records.ColourOperation.{ColourOperation}
+use Rattle.settings.specs.declared.records.BlendFunction.{BlendFunction}
+use Rattle.settings.specs.declared.records.ColourFormat.{ColourFormat}
+use Rattle.settings.specs.declared.records.Framebuffer.{Framebuffer}
+use Rattle.settings.specs.declared.records.Settings.{Settings}
 
 -- THE CODES
 

@@ -5,11 +5,11 @@ use Prim.Native.Nat.{ℕ}
 use lib.Dec.{eqb}
 use Rattle.numbers.specs.Pick.{pick}
 use Rattle.registers.specs.State.{State, sized}
-use Rattle.decode.specs.Ranges.{inCells}
-use Rattle.decode.specs.Settings.{settingsIn}
+use Rattle.settings.specs.Ranges.{inCells}
+use Rattle.settings.specs.Settings.{settingsIn}
 use Rattle.decode.specs.Codes.{checks, lacksAt, lowest}
-use Rattle.decode.specs.Flat.{flat}
-use Rattle.decode.specs.declared.records.Settings.{Settings}
+use Rattle.settings.specs.Flat.{flat}
+use Rattle.settings.specs.declared.records.Settings.{Settings}
 use Rattle.decode.specs.declared.Decoded.{Decoded}
 use Rattle.decode.specs.declared.Decoded.the-variants.{Held, Refused}
 

@@ -1,9 +1,2 @@
-pub mod Ranges
-pub mod Rasteriser
-pub mod Stages
-pub mod Framebuffer
-pub mod Settings
-pub mod Fields
-pub mod Flat
 pub mod Codes
 pub mod Decoded

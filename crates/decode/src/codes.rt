@@ -4,10 +4,10 @@ ghost use mathlib.Core.Path.{_≡_};
 ghost use Prim.Native.Nat.{_<_};
 ghost use lib.ListN.{length};
 ghost use Rattle.numbers.specs.Pick.{pick};
-ghost use Rattle.decode.specs.Ranges.{bits, inCells};
-ghost use Rattle.decode.specs.Stages.{sourceIn, operandIn, combinerIn, scaleIn, stageIn, updateIn};
-ghost use Rattle.decode.specs.Framebuffer.{operationIn, functionIn, formatIn, framebufferIn};
-ghost use Rattle.decode.specs.Settings.{settingsIn};
+ghost use Rattle.settings.specs.Ranges.{bits, inCells};
+ghost use Rattle.settings.specs.Stages.{sourceIn, operandIn, combinerIn, scaleIn, stageIn, updateIn};
+ghost use Rattle.settings.specs.Framebuffer.{operationIn, functionIn, formatIn, framebufferIn};
+ghost use Rattle.settings.specs.Settings.{settingsIn};
 ghost use Rattle.decode.specs.Codes.{sourceLacks, operandLacks, combinerLacks, scaleLacks, updateLacks, operationLacks, functionLacks, formatLacks, noDepthFormat, stageChecks, frameChecks, checks, firstOf, lowest};
 
 fn source_lacks(x: u32) -> bool

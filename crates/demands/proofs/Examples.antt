@@ -7,7 +7,7 @@ use Rattle.registers.specs.Held.{held, bitsIn, bitsOf}
 use Rattle.registers.specs.Ports.{fogCells, fogEntries}
 use Rattle.registers.specs.Applied.{cellsAfter, put, applyAll}
 use Rattle.reader.specs.Verdict.{firstFault, judge, verdict}
-use Rattle.decode.specs.Ranges.{signed}
+use Rattle.settings.specs.Ranges.{signed}
 use Rattle.lines.specs.Text.{digits, decimal}
 use Rattle.lines.specs.Lines.{firstWords, lineOf}
 use Rattle.cuts.specs.Cuts.{table, sizesFrom}

@@ -8,8 +8,8 @@ use Rattle.words.specs.Commands.{expansion}
 use Rattle.registers.specs.State.{State, st}
 use Rattle.registers.specs.Applied.{apply, applyAll}
 use Rattle.reader.specs.Verdict.{verdict}
-use Rattle.decode.specs.Ranges.{signed}
-use Rattle.decode.specs.Fields.{twos}
+use Rattle.settings.specs.Ranges.{signed}
+use Rattle.settings.specs.Fields.{twos}
 use Rattle.lines.specs.Text.{ascii}
 use Rattle.lines.specs.Lines.{lineOf}
 use Rattle.runs.specs.Packed.{writes, packed}

@@ -4,7 +4,7 @@ use contract.Lifetimes.{Lfts}
 use borrow.Fn.Kinds.{Dens}
 use denote.Ref.{now}
 use Rattle.numbers.specs.Settled.{Settles, settled}
-use Rattle.decode.specs.Flat.{flat}
+use Rattle.settings.specs.Flat.{flat}
 use Rattle.flat.proofs.lay_settings.Reads as lay-settings
 use Rattle.flat.proofs.lay_settings.Kinds as lay-settings-kinds
 

@@ -1,12 +1,12 @@
 -- The decoded state's words in three groups, as they are laid out.
 use mathlib.Core.List.{List, _++_}
 use Prim.Native.Nat.{ℕ}
-use Rattle.decode.specs.Flat.{rasteriserWords, stageWords, fogWords, colourWords, blendingWords, testsWords, buffersWords, lightPortWords}
-use Rattle.decode.specs.declared.records.Rasteriser.{Rasteriser}
-use Rattle.decode.specs.declared.records.Stages.{Stages}
-use Rattle.decode.specs.declared.records.BufferFog.{BufferFog}
-use Rattle.decode.specs.declared.records.Framebuffer.{Framebuffer}
-use Rattle.decode.specs.declared.records.LightPort.{LightPort}
+use Rattle.settings.specs.Flat.{rasteriserWords, stageWords, fogWords, colourWords, blendingWords, testsWords, buffersWords, lightPortWords}
+use Rattle.settings.specs.declared.records.Rasteriser.{Rasteriser}
+use Rattle.settings.specs.declared.records.Stages.{Stages}
+use Rattle.settings.specs.declared.records.BufferFog.{BufferFog}
+use Rattle.settings.specs.declared.records.Framebuffer.{Framebuffer}
+use Rattle.settings.specs.declared.records.LightPort.{LightPort}
 
 -- 40 to DC
 abbrev pub wordsToDC : Rasteriser → Stages → List ℕ

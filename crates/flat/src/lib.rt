@@ -1,22 +1,22 @@
-// The decoded state laid out as 204 words, one a field, in the order of the field table. The contracts cite decode's specs/Flat.antt.
+// The decoded state laid out as 204 words, one a field, in the order of the field table. The contracts cite settings' specs/Flat.antt.
 ghost use mathlib.Core.Path.{_≡_};
 ghost use mathlib.Core.List.{_++_};
 ghost use Prim.Native.Nat.{_+_, _≤_};
 ghost use lib.ListN.{length, take};
-ghost use Rattle.decode.specs.Fields.{twos};
-ghost use Rattle.decode.specs.Flat.{rasteriserWords, stageWords, fogWords, colourWords, blendingWords, testsWords, buffersWords, lightPortWords, flat};
+ghost use Rattle.settings.specs.Fields.{twos};
+ghost use Rattle.settings.specs.Flat.{rasteriserWords, stageWords, fogWords, colourWords, blendingWords, testsWords, buffersWords, lightPortWords, flat};
 ghost use Rattle.flat.specs.Groups.{wordsToDC, wordsToFD, wordsTo1C5};
-use decode::records::Blending;
-use decode::records::BufferFog;
-use decode::records::Buffers;
-use decode::records::Colour;
-use decode::records::Framebuffer;
-use decode::records::LightPort;
-use decode::records::Rasteriser;
-use decode::records::Settings;
-use decode::records::Stage;
-use decode::records::Stages;
-use decode::records::Tests;
+use settings::records::Blending;
+use settings::records::BufferFog;
+use settings::records::Buffers;
+use settings::records::Colour;
+use settings::records::Framebuffer;
+use settings::records::LightPort;
+use settings::records::Rasteriser;
+use settings::records::Settings;
+use settings::records::Stage;
+use settings::records::Stages;
+use settings::records::Tests;
 
 // A signed number in two's complement.
 fn twos_of(x: i32) -> u32

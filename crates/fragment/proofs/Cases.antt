@@ -2,7 +2,7 @@
 use mathlib.Core.Path.{_≡_}
 use Prim.Native.Nat.{ℕ, _<_, _≤_}
 use borrow.Author.Tests.{eq-eqb, ne-eqb, lt-ltb, le-ltb}
-use Rattle.decode.specs.declared.records.Settings.{Settings}
+use Rattle.settings.specs.declared.records.Settings.{Settings}
 use Rattle.combiner.specs.declared.Given.{Given}
 use Rattle.fragment.specs.Drawn.{outcomeOf, unbuiltId, largest, refusal, drawnWith}
 use Rattle.fragment.specs.declared.Outcome.{Outcome}

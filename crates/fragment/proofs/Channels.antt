@@ -5,9 +5,9 @@ use Prim.Native.Nat.{ℕ, _/_, _%_, _^_}
 use native.Mathlib.Omega.{arith}
 use lib.Bits.{bitAnd, bitOr, bitXor, and-shr, and-mod, or-shr, or-mod, xor-shr, xor-mod}
 use lib.ListN.{List·getD-map}
-use Rattle.decode.specs.Ranges.{bits}
-use Rattle.decode.specs.Stages.{colourIn}
-use Rattle.decode.specs.declared.records.Colour.{Colour}
+use Rattle.settings.specs.Ranges.{bits}
+use Rattle.settings.specs.Stages.{colourIn}
+use Rattle.settings.specs.declared.records.Colour.{Colour}
 use Rattle.combiner.proofs.Results.{Bytes}
 use Rattle.fragment.specs.Logic.{results, logical, logicalColour}
 use Rattle.fragment.specs.Packed.{packed}

@@ -8,9 +8,9 @@ use lib.Dec.{eqb}
 use Rattle.numbers.specs.Pick.{pick}
 use Rattle.numbers.specs.Bits.{bit}
 use Rattle.numbers.proofs.Merge.{merge-bit}
-use Rattle.decode.specs.declared.records.Colour.{Colour}
-use Rattle.decode.specs.declared.records.Framebuffer.{Framebuffer}
-use Rattle.decode.specs.declared.records.Settings.{Settings}
+use Rattle.settings.specs.declared.records.Colour.{Colour}
+use Rattle.settings.specs.declared.records.Framebuffer.{Framebuffer}
+use Rattle.settings.specs.declared.records.Settings.{Settings}
 use Rattle.combiner.specs.declared.Given.{Given}
 use Rattle.fragment.specs.Stencil.{operated, masked}
 use Rattle.fragment.specs.Logic.{logicalColour}

@@ -6,7 +6,7 @@ use native.Mathlib.Omega.{arith}
 use lib.Dec.{eqb}
 use borrow.Author.Tests.{eqb-true}
 use Rattle.numbers.specs.Pick.{pick}
-use Rattle.decode.specs.declared.records.Settings.{Settings}
+use Rattle.settings.specs.declared.records.Settings.{Settings}
 use Rattle.fragment.specs.Drawn.{fogUnbuilt, operationUnbuilt, formatUnbuilt, unbuiltAt, unbuiltId}
 
 -- by the tests of E0, 100 and 117: the first that holds, and whether that of i does

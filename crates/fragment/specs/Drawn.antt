@@ -6,12 +6,12 @@ use lib.Dec.{eqb, ltb}
 use Rattle.numbers.specs.Pick.{pick}
 use Rattle.registers.specs.State.{State}
 use Rattle.decode.specs.Decoded.{decodedOf}
-use Rattle.decode.specs.declared.records.Colour.{Colour}
-use Rattle.decode.specs.declared.records.UpdateBuffer.{UpdateBuffer}
-use Rattle.decode.specs.declared.records.ColourOperation.{ColourOperation}
-use Rattle.decode.specs.declared.records.ColourFormat.{ColourFormat}
-use Rattle.decode.specs.declared.records.Framebuffer.{Framebuffer}
-use Rattle.decode.specs.declared.records.Settings.{Settings}
+use Rattle.settings.specs.declared.records.Colour.{Colour}
+use Rattle.settings.specs.declared.records.UpdateBuffer.{UpdateBuffer}
+use Rattle.settings.specs.declared.records.ColourOperation.{ColourOperation}
+use Rattle.settings.specs.declared.records.ColourFormat.{ColourFormat}
+use Rattle.settings.specs.declared.records.Framebuffer.{Framebuffer}
+use Rattle.settings.specs.declared.records.Settings.{Settings}
 use Rattle.decode.specs.declared.Decoded.{Decoded}
 use Rattle.decode.specs.declared.Decoded.the-variants as decoded
 use Rattle.combiner.specs.declared.Given.{Given}

@@ -3,7 +3,7 @@ use mathlib.Core.List.{List, [], _∷_}
 use Prim.Native.Nat.{ℕ, _%_}
 use lib.Bits.{bitAnd, bitOr, bitXor}
 use lib.ListN.{getD}
-use Rattle.decode.specs.declared.records.Colour.{Colour}
+use Rattle.settings.specs.declared.records.Colour.{Colour}
 
 -- the sixteen results, by code, on numbers of any width: `ones` has every bit of it, 255 for a channel
 unfoldable pub results : ℕ → ℕ → ℕ → List ℕ

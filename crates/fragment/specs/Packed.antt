@@ -1,6 +1,6 @@
 -- A colour as one word, as a colour register holds it.
 use Prim.Native.Nat.{ℕ, _+_, _*_}
-use Rattle.decode.specs.declared.records.Colour.{Colour}
+use Rattle.settings.specs.declared.records.Colour.{Colour}
 
 abbrev pub packed : Colour → ℕ
 packed c = c .red + c .green * 0x100 + c .blue * 0x10000 + c .alpha * 0x1000000

@@ -3,9 +3,9 @@ use mathlib.Core.Bool.{Bool, not, _&&_}
 use Prim.Native.Nat.{ℕ}
 use lib.Dec.{eqb}
 use Rattle.numbers.specs.Pick.{pick}
-use Rattle.decode.specs.declared.records.Colour.{Colour}
-use Rattle.decode.specs.declared.records.DepthColourMask.{DepthColourMask}
-use Rattle.decode.specs.declared.records.Framebuffer.{Framebuffer}
+use Rattle.settings.specs.declared.records.Colour.{Colour}
+use Rattle.settings.specs.declared.records.DepthColourMask.{DepthColourMask}
+use Rattle.settings.specs.declared.records.Framebuffer.{Framebuffer}
 use Rattle.fragment.specs.Stencil.{operated, masked}
 use Rattle.fragment.specs.Logic.{logicalColour}
 use Rattle.fragment.specs.Tests.{stencilActive}

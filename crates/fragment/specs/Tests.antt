@@ -4,10 +4,10 @@ use Prim.Native.Nat.{ℕ}
 use lib.Bits.{bitAnd}
 use lib.Dec.{eqb}
 use Rattle.numbers.specs.Pick.{pick}
-use Rattle.decode.specs.declared.records.AlphaTest.{AlphaTest}
-use Rattle.decode.specs.declared.records.StencilTest.{StencilTest}
-use Rattle.decode.specs.declared.records.DepthColourMask.{DepthColourMask}
-use Rattle.decode.specs.declared.records.Framebuffer.{Framebuffer}
+use Rattle.settings.specs.declared.records.AlphaTest.{AlphaTest}
+use Rattle.settings.specs.declared.records.StencilTest.{StencilTest}
+use Rattle.settings.specs.declared.records.DepthColourMask.{DepthColourMask}
+use Rattle.settings.specs.declared.records.Framebuffer.{Framebuffer}
 use Rattle.fragment.specs.Compare.{compared}
 use Rattle.fragment.specs.declared.Verdict.{Verdict}
 use Rattle.fragment.specs.declared.Verdict.the-variants.{AlphaFails, StencilFails, DepthFails, Passes}

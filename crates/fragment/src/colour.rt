@@ -1,15 +1,15 @@
 // The colour that is stored. The contracts cite specs/Logic.antt and specs/Stores.antt.
 ghost use mathlib.Core.Path.{_≡_};
-ghost use Rattle.decode.specs.Ranges.{bits};
-ghost use Rattle.decode.specs.Stages.{colourIn};
+ghost use Rattle.settings.specs.Ranges.{bits};
+ghost use Rattle.settings.specs.Stages.{colourIn};
 ghost use Rattle.numbers.specs.Pick.{pick};
 ghost use Rattle.fragment.specs.Logic.{logical, logicalColour};
 ghost use Rattle.fragment.specs.Stores.{colourUnder, colourAfter};
 ghost use Rattle.fragment.specs.Packed.{packed};
 use crate::Verdict;
-use decode::records::Colour;
-use decode::records::DepthColourMask;
-use decode::records::Framebuffer;
+use settings::records::Colour;
+use settings::records::DepthColourMask;
+use settings::records::Framebuffer;
 
 // A colour as one word, as a colour register holds it.
 fn pack(c: Colour) -> u32

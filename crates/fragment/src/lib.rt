@@ -5,11 +5,11 @@ ghost use Rattle.fragment.specs.Stores.{depthAfter};
 ghost use Rattle.fragment.specs.Drawn.{judgedOf, outcomeOf, operationUnbuilt, formatUnbuilt, unbuiltId, largest, drawnWith, drawnOf};
 use combiner::Given;
 use decode::Decoded;
-use decode::records::Colour;
-use decode::records::ColourFormat;
-use decode::records::ColourOperation;
-use decode::records::Framebuffer;
-use decode::records::Settings;
+use settings::records::Colour;
+use settings::records::ColourFormat;
+use settings::records::ColourOperation;
+use settings::records::Framebuffer;
+use settings::records::Settings;
 use words::Refusal;
 
 mod colour;

@@ -5,7 +5,7 @@ ghost use Rattle.fragment.specs.Stencil.{operated, masked};
 ghost use Rattle.fragment.specs.Stores.{stencilBy, stencilAfter};
 use crate::Verdict;
 use crate::tests;
-use decode::records::Framebuffer;
+use settings::records::Framebuffer;
 
 fn up(x: u8) -> u8
     ensures { λ r. ⌜ r ≡ min (x + 1) 255 ⌝ }

@@ -3,10 +3,10 @@ ghost use mathlib.Core.Path.{_≡_};
 ghost use Rattle.fragment.specs.Compare.{compared};
 ghost use Rattle.fragment.specs.Tests.{alphaPasses, stencilActive, stencilPasses, depthPasses, inOrder, verdictOf};
 use crate::Verdict;
-use decode::records::AlphaTest;
-use decode::records::DepthColourMask;
-use decode::records::Framebuffer;
-use decode::records::StencilTest;
+use settings::records::AlphaTest;
+use settings::records::DepthColourMask;
+use settings::records::Framebuffer;
+use settings::records::StencilTest;
 
 // Codes 0-7: never, always, equal, unequal, less, at most, greater, at least.
 fn compare(code: u32, a: u32, b: u32) -> bool

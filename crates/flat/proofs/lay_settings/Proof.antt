@@ -3,7 +3,7 @@ use mathlib.Core.Path.{ap, _∙_}
 use mathlib.Core.List.{List, _++_}
 use Prim.Native.Nat.{ℕ}
 use native.Mathlib.Omega.{arith}
-use Rattle.decode.specs.Flat.{flat}
+use Rattle.settings.specs.Flat.{flat}
 use Rattle.flat.specs.Groups.{wordsToFD, wordsTo1C5}
 use Rattle.flat.proofs.Laid.{whole}
 use borrow.Author.Needs.{needs}

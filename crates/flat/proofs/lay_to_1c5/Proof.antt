@@ -4,7 +4,7 @@ use mathlib.Core.List.{List, _++_}
 use Prim.Native.Nat.{ℕ}
 use lib.ListN.{take}
 use Rattle.flat.proofs.Laid.{first, more}
-use Rattle.decode.specs.Flat.{blendingWords, testsWords, buffersWords, lightPortWords}
+use Rattle.settings.specs.Flat.{blendingWords, testsWords, buffersWords, lightPortWords}
 use borrow.Author.Needs.{needs}
 use Rattle.flat.proofs.lay_to_1c5.Statement.{statement}
 use Rattle.flat.proofs.lay_to_1c5.Tie as tie

@@ -4,7 +4,7 @@ use mathlib.Core.List.{List, _++_}
 use Prim.Native.Nat.{ℕ}
 use lib.ListN.{take}
 use Rattle.flat.proofs.Laid.{first, more}
-use Rattle.decode.specs.Flat.{rasteriserWords, stageWords}
+use Rattle.settings.specs.Flat.{rasteriserWords, stageWords}
 use borrow.Author.Needs.{needs}
 use Rattle.flat.proofs.lay_to_dc.Statement.{statement}
 use Rattle.flat.proofs.lay_to_dc.Tie as tie

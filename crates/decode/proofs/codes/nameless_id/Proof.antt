@@ -1,6 +1,6 @@
 -- Group by group, as the calls ensure. Assumes nothing.
 use Rattle.decode.proofs.First.{lowest-checks}
-use Rattle.decode.specs.Settings.{settingsIn}
+use Rattle.settings.specs.Settings.{settingsIn}
 use borrow.Author.Needs.{needs}
 use Rattle.decode.proofs.codes.nameless_id.Statement.{statement}
 use Rattle.decode.proofs.codes.nameless_id.Tie as tie

@@ -1,0 +1,5 @@
+pub mod Signed
+pub mod Table
+pub mod HeldBits
+pub mod HeldOnce
+pub mod Determined

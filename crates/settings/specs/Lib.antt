@@ -1,0 +1,7 @@
+pub mod Ranges
+pub mod Rasteriser
+pub mod Stages
+pub mod Framebuffer
+pub mod Settings
+pub mod Fields
+pub mod Flat
