@@ -8,6 +8,7 @@ use Rattle.registers.specs.Ports.{fogCells, fogEntries}
 use Rattle.registers.specs.Applied.{cellsAfter, put, applyAll}
 use Rattle.reader.specs.Verdict.{firstFault, judge, verdict}
 use Rattle.settings.specs.Ranges.{signed}
+use Rattle.settings.specs.Settings.{settingsIn}
 use Rattle.lines.specs.Text.{digits, decimal}
 use Rattle.lines.specs.Lines.{firstWords, lineOf}
 use Rattle.cuts.specs.Cuts.{table, sizesFrom}
@@ -18,5 +19,5 @@ use Rattle.combiner.specs.Dot.{centred, atLeastZero, dot3Of}
 use Rattle.demands.specs.Cases.{Case, cases}
 
 pub examples : map (λ (c : Case). c .got) cases ≡ map (λ (c : Case). c .want) cases
-unfolding cases faultOf run places commands join expansion held bitsIn bitsOf fogCells fogEntries cellsAfter put applyAll firstFault judge verdict firstWords lineOf digits decimal signed table sizesFrom chain span packed combined centred atLeastZero dot3Of
+unfolding cases faultOf run places commands join expansion held bitsIn bitsOf fogCells fogEntries cellsAfter put applyAll firstFault judge verdict firstWords lineOf digits decimal signed settingsIn table sizesFrom chain span packed combined centred atLeastZero dot3Of
 examples = refl

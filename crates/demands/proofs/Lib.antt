@@ -4,3 +4,4 @@ pub mod NeverRead
 pub mod Reading
 pub mod Packing
 pub mod Examples
+pub mod Drawing

@@ -8,7 +8,8 @@ use Rattle.words.specs.Commands.{expansion}
 use Rattle.registers.specs.State.{State, st}
 use Rattle.registers.specs.Applied.{apply, applyAll}
 use Rattle.reader.specs.Verdict.{verdict}
-use Rattle.settings.specs.Ranges.{signed}
+use Rattle.settings.specs.Ranges.{inCells}
+use Rattle.settings.specs.Settings.{settingsIn}
 use Rattle.settings.specs.Fields.{twos}
 use Rattle.lines.specs.Text.{ascii}
 use Rattle.lines.specs.Lines.{lineOf}
@@ -45,9 +46,13 @@ list header n = 0 ∷ header ∷ replicate n 0
 abbrev cell107 : ℕ → ℕ
 cell107 m = getD (apply zeros (writing 0x107 m 0x1F71) .cells) 0x107 0
 
--- E6 at 127, then the fog entries' low words 5 and 6
+-- E6 at 127, then 5 and 6 written to the fog port
 abbrev fogged : State
-fogged = applyAll (st (set (replicate 768 0) 0xE6 127) (replicate 128 0) []) (writing 0xE8 15 5 ∷ writing 0xE8 15 6 ∷ [])
+fogged = applyAll (st (set (replicate 768 0) 0xE6 127) (replicate 128 0) (replicate 6144 0)) (writing 0xE8 15 5 ∷ writing 0xE8 15 6 ∷ [])
+
+-- the two fields of 68 when both hold x
+abbrev offsets : ℕ → List ℕ
+offsets x = let xy = settingsIn (inCells (set (replicate 768 0) 0x68 (x + x * 0x10000))) .rasteriser .viewport .xy in twos (xy .x) ∷ twos (xy .y) ∷ []
 
 abbrev grey : ℕ → Rgb
 grey x = record { red = x; green = x; blue = x }
@@ -66,7 +71,7 @@ cases =
     -- E6 at 127, two fog writes: entries 127 and 0, E6 at 1
     ∷ case (getD (fogged .fog) 127 0 ∷ getD (fogged .fog) 0 0 ∷ getD (fogged .cells) 0xE6 0 ∷ []) (5 ∷ 6 ∷ 1 ∷ [])
     -- 68 field 3FF is -1, 200 is -512, 1FF is 511, here in two's complement
-    ∷ case (map (λ x. twos (signed 10 x)) (0x3FF ∷ 0x200 ∷ 0x1FF ∷ [])) (0xFFFFFFFF ∷ 0xFFFFFE00 ∷ 511 ∷ [])
+    ∷ case (offsets 0x3FF ++ offsets 0x200 ++ offsets 0x1FF) (0xFFFFFFFF ∷ 0xFFFFFFFF ∷ 0xFFFFFE00 ∷ 0xFFFFFE00 ∷ 511 ∷ 511 ∷ [])
     -- stencil A5, replace by 3C, buffer mask 0F: AC. With mask FF, FF by operation 3: FF; by 6: 0
     ∷ case (masked 0x0F 0xA5 (operated 2 0xA5 0x3C) ∷ masked 0xFF 0xFF (operated 3 0xFF 0) ∷ masked 0xFF 0xFF (operated 6 0xFF 0) ∷ [])
     (0xAC ∷ 0xFF ∷ 0 ∷ [])
