@@ -15,10 +15,9 @@ use Rattle.registers.specs.Applied.{applyAll}
 use Rattle.reader.specs.Verdict.{verdict}
 use Rattle.reader.specs.Read.{readAnswer, readState}
 use Rattle.reader.proofs.Accepted.{verdict-accepted}
-use Rattle.runs.specs.Packed.{writes, packed}
+use Rattle.runs.specs.Packed.{writes, Given, packed}
 use Rattle.runs.specs.Shortest.{Says, Shortest}
 use Rattle.runs.proofs.Writes.{writes-length}
-use Rattle.packer.specs.Given.{Given}
 use Rattle.packer.specs.Packing.{packAnswer, spaceAfter, packSpace}
 use Rattle.packer.proofs.Demand.{pack-fits, pack-short, no-room-only, given-shortest}
 use Rattle.demands.proofs.Reading.{accepted, leaves}

@@ -13,10 +13,10 @@ use Rattle.numbers.specs.Pick.{pick}
 use Rattle.numbers.specs.Answer.{Answer, answered, refused}
 use Rattle.words.specs.Writes.{Write, faultOf, jumps, portData}
 use Rattle.reader.specs.Verdict.{unlessFault}
-use Rattle.runs.specs.Packed.{writes, packed}
+use Rattle.runs.specs.Packed.{writes, Given, packed}
 use Rattle.runs.specs.Shortest.{Says, Shortest}
 use Rattle.runs.proofs.Shortest.{packed-shortest, packed-least}
-use Rattle.packer.specs.Given.{wrong, firstWrong, checkAnswer, Given}
+use Rattle.packer.specs.Given.{wrong, firstWrong, checkAnswer}
 use Rattle.packer.specs.Packing.{ifRoom, andThen, packAnswer, packSpace}
 use Rattle.packer.proofs.Given.{level, check-given, given-check}
 use Rattle.packer.proofs.Packs.{pack-room, room-enough, room-short}

@@ -13,9 +13,9 @@ use Rattle.numbers.proofs.Tests.{and-true}
 use Rattle.words.specs.Writes.{Write, faultOf, allowed}
 use Rattle.words.proofs.Laws.{allowed-fault}
 use Rattle.reader.specs.Verdict.{unlessFault}
-use Rattle.runs.specs.Packed.{writes, Packable}
+use Rattle.runs.specs.Packed.{writes, Packable, Given}
 use Rattle.runs.proofs.Writes.{writes-length, writes-at}
-use Rattle.packer.specs.Given.{wrong, firstWrong, checkAnswer, Given}
+use Rattle.packer.specs.Given.{wrong, firstWrong, checkAnswer}
 
 -- three buffers of one length
 abbrev pub level : List ℕ → List ℕ → List ℕ → Bool

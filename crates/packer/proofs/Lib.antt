@@ -1,6 +1,4 @@
 pub mod Given
-pub mod Plans
-pub mod Lays
 pub mod Packs
 pub mod Demand
 pub mod Once

@@ -11,11 +11,10 @@ use Rattle.numbers.specs.Answer.{answered}
 use Rattle.registers.specs.State.{State, sized}
 use Rattle.registers.specs.Applied.{applyAll}
 use Rattle.reader.specs.Read.{readAnswer, readState}
-use Rattle.runs.specs.Packed.{writes, packed}
+use Rattle.runs.specs.Packed.{writes, Given, packed}
 use Rattle.runs.proofs.Packed.{packed-short}
 use Rattle.runs.proofs.Shortest.{packed-accepted, packed-expansion}
 use Rattle.runs.proofs.Writes.{writes-length}
-use Rattle.packer.specs.Given.{Given}
 
 module _ (is ms vs : List ℕ) (G : Given is ms vs) (s : State) (z : sized s ≡ true) where
   pub packed-read : readAnswer s (packed (writes is ms vs)) ≡ answered (length is)

@@ -1,15 +1,14 @@
 -- What is wrong with the writes given: 7, 8, then each write in order for 9, 3, 4, 5 with its index.
-use mathlib.Core.Path.{_≡_}
 use mathlib.Core.Bool.{_&&_}
 use mathlib.Core.List.{List, [], _∷_}
-use Prim.Native.Nat.{ℕ, _+_, _≤_}
+use Prim.Native.Nat.{ℕ, _+_}
 use lib.Dec.{ltb, leb, eqb}
 use lib.ListN.{length}
 use Rattle.numbers.specs.Pick.{pick}
 use Rattle.numbers.specs.Answer.{Answer, answered, refused}
 use Rattle.words.specs.Writes.{Write, faultOf}
 use Rattle.reader.specs.Verdict.{unlessFault}
-use Rattle.runs.specs.Packed.{writes, Packable}
+use Rattle.runs.specs.Packed.{writes}
 use Rattle.packer.specs.declared.Checked.{Checked}
 use Rattle.packer.specs.declared.Checked.the-variants.{Fine, Refused}
 
@@ -33,10 +32,3 @@ checkAnswer is ms vs =
 abbrev pub found : Checked → Answer
 found Fine = answered 0
 found (Refused r) = refused (r .number) (r .place)
-
--- writes that are not refused: buffers of one length, no more than 4,096 writes, each of them allowed with a mask of at most 15
-pub record Given (is ms vs : List ℕ) : Type 0 where
-  pub masks : length is ≡ length ms
-  pub values : length is ≡ length vs
-  pub few : length is ≤ 4096
-  pub packable : Packable (writes is ms vs)

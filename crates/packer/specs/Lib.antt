@@ -1,4 +1,2 @@
 pub mod Given
-pub mod Laying
-pub mod Plan
 pub mod Packing

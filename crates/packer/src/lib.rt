@@ -1,15 +1,12 @@
-// A run of writes packed into the shortest list: the writes are checked, their commands planned from the run's end, and laid out from its start.
-// The contracts cite specs/Given.antt and specs/Packing.antt; the packed list itself is defined in crate runs.
+// A run of writes packed into the shortest list: the writes are checked, their commands planned from the run's end (crate planning), and laid out
+// from its start (crate laying). The contracts cite specs/Given.antt and specs/Packing.antt; the packed list itself is defined in crate runs.
 ghost use mathlib.Core.Path.{_≡_};
 ghost use Prim.Native.Nat.{_≤_, _<_};
 ghost use lib.ListN.{length};
-ghost use Rattle.runs.specs.Packed.{writes, packed};
-ghost use Rattle.packer.specs.Given.{wrong, checkAnswer, found, Given};
+ghost use Rattle.runs.specs.Packed.{writes, Given, packed};
+ghost use Rattle.packer.specs.Given.{wrong, checkAnswer, found};
 ghost use Rattle.packer.specs.Packing.{told, ifRoom, packAnswer, spaceAfter, packSpace};
 use words::Refusal;
-
-mod laying;
-mod planning;
 
 // The number of the refusal of a write to `id` under `mask`, 0 for none.
 fn wrong_with(id: u32, mask: u32) -> u32

@@ -25,6 +25,13 @@ abbrev pub Packable : List Write → Type 0
 Packable [] = Unit {0}
 Packable (w ∷ l) = (w .mask ≤ 15) × (allowed (w .id) (w .mask) ≡ true) × Packable l
 
+-- writes that are not refused: buffers of one length, no more than 4,096 writes, each of them allowed with a mask of at most 15
+pub record Given (is ms vs : List ℕ) : Type 0 where
+  pub masks : length is ≡ length ms
+  pub values : length is ≡ length vs
+  pub few : length is ≤ 4096
+  pub packable : Packable (writes is ms vs)
+
 -- bit 31 of a command of the first k writes, where one command can carry them: clear where they have one id, as a lone write has
 abbrev pub stepFor : ℕ → List Write → ℕ
 stepFor k l = pick (leb k (chain 0 l)) 0 1

@@ -3,7 +3,8 @@ use mathlib.Core.Path.{_≡_, sym, ap, _∙_}
 use native.Mathlib.Omega.{arith}
 use borrow.Author.Needs.{needs}
 use Rattle.numbers.specs.Answer.{answered}
-use Rattle.packer.specs.Given.{found, checkAnswer, Given}
+use Rattle.runs.specs.Packed.{Given}
+use Rattle.packer.specs.Given.{found, checkAnswer}
 use Rattle.packer.proofs.Given.{check-given}
 use Rattle.packer.proofs.Packs.{pack-refused, pack-room}
 use Rattle.packer.proofs.pack.Statement.{statement}

@@ -1,0 +1,160 @@
+-- The words of a command from the three buffers, and one command after another to the whole list. Assumes nothing.
+use mathlib.Core.Path.{_≡_, refl, sym, ap, _∙_}
+use mathlib.Core.Bool.{Bool, true, false}
+use mathlib.Core.List.{List, _∷_, _++_, append-assoc}
+use Prim.Native.Nat.{ℕ, suc, _+_, _-_, _%_, _≤_, _<_}
+use native.Mathlib.Decide.{decLt}
+use native.Mathlib.Omega.{arith}
+use lib.Dec.{eqb}
+use lib.ListN.{length, getD, take, drop, set, length-append, length-drop}
+use lib.Seq.{length-take-le, take-all, take-at, drop-at, take-add, drop-drop, getD-drop, paste, paste-zero, drop-paste}
+use borrow.Author.Tests.{lt-ltb, le-ltb, eqb-true, eqb-false}
+use Rattle.numbers.specs.Pick.{pick}
+use Rattle.numbers.proofs.Copy.{next-word}
+use Rattle.words.specs.Writes.{Write, writing}
+use Rattle.cuts.specs.Cuts.{words, first}
+use Rattle.runs.specs.Span.{span}
+use Rattle.runs.specs.Packed.{writes, values, Given, stepFor, header, command, OneCommand, packed}
+use Rattle.runs.proofs.Chain.{step-lone, step-same, step-rise}
+use Rattle.runs.proofs.Command.{command-extra, command-pad}
+use Rattle.runs.proofs.Packed.{packed-none, packed-more, first-command}
+use Rattle.runs.proofs.RoundTrip.{plain-drop}
+use Rattle.runs.proofs.Shortest.{plain}
+use Rattle.runs.proofs.Writes.{writes-length, writes-at, values-from}
+use Rattle.laying.specs.Laying.{stepAt}
+
+-- a copy of more words over a copy of fewer
+pub copy-more : (old s : List ℕ) (at j n : ℕ) → at + n ≤ length old → j ≤ length s → j ≤ n → paste (paste old at s j) at s n ≡ paste old at s n
+copy-more old s at j n h q r =
+    let front : take at (paste old at s j) ≡ take at old =
+    ap (take at) (append-assoc (take at old) (take j s) (drop (at + j) old))
+    ∙ take-at (take at old) (take j s ++ drop (at + j) old) at (length-take-le at old (omega arith)) in
+    let d : at + j + (n - j) ≡ at + n = omega arith in
+    let back : drop (at + n) (paste old at s j) ≡ drop (at + n) old =
+    rw (← d, ← drop-drop (n - j) (at + j) (paste old at s j), drop-paste old at s j (omega arith) q) (drop-drop (n - j) (at + j) old) in
+    rw (front, back)
+
+pub copied : (old s start new : List ℕ) (at m n : ℕ) → start ≡ paste old at s 2 → new ≡ paste start at s (m + 1) → m + 1 ≡ n → 2 ≤ n
+    → at + n ≤ length old → n ≤ length s → new ≡ paste old at s n
+copied old s start new at m n e f g h q r = f ∙ rw (e, g) (copy-more old s at 2 n q (omega arith) h)
+
+-- THE WORDS OF THE COMMAND of k writes from i on
+module _ (is ms vs : List ℕ) (G : Given is ms vs) (i k : ℕ) (F : OneCommand (drop i (writes is ms vs)) k) where
+  abbrev ws : List Write
+  ws = writes is ms vs
+
+  pub inside : i + k ≤ length is
+  inside = omega (arith, F .fits, F .low, length-drop i ws, writes-length is ms vs (G .masks) (G .values))
+
+  abbrev here : ℕ → Write
+  here j = writing (getD is j 0) (getD ms j 0) (getD vs j 0)
+
+  at-i : drop i ws ≡ here i ∷ drop (i + 1) ws
+  at-i = writes-at is ms vs i (G .masks) (G .values) (omega (arith, inside, F .low))
+
+  fits : k ≤ suc (length (drop (i + 1) ws))
+  fits = rw at-i at (F .fits)
+
+  pub word-first : getD vs i 0 ≡ getD (command k (drop i ws)) 0 0
+  word-first = rw at-i
+
+  pub word-header : header (getD is i 0) (getD ms i 0) k (stepFor k (drop i ws)) ≡ getD (command k (drop i ws)) 1 0
+  word-header = rw at-i
+
+  pub word-extra : (m : ℕ) → 1 ≤ m → m < k → getD vs (i + m) 0 ≡ getD (command k (drop i ws)) (m + 1) 0
+  word-extra m p q =
+      sym (getD-drop i vs m 0) ∙ rw (← values-from is ms vs i (G .masks) (G .values), at-i) (sym (command-extra k _ _ (F .low) fits m p q))
+
+  pub word-pad : k % 2 ≡ 0 → 0 ≡ getD (command k (drop i ws)) (k + 1) 0
+  word-pad e = rw at-i (sym (command-pad k _ _ (F .low) fits e))
+
+  -- what its header holds
+  pub plain-at : (getD is i 0 < 0x10000) × (getD ms i 0 < 16)
+  plain-at = let p = rw at-i at (plain-drop i ws (plain ws (G .packable))) in (p .0, p .1)
+
+  by-next : 2 ≤ k → (t : Bool) → eqb (getD is (i + 1) 0) (getD is i 0) ≡ t → pick t 0 1 ≡ stepFor k (drop i ws)
+  by-next h t e =
+      let next = writes-at is ms vs (i + 1) (G .masks) (G .values) (omega (arith, inside)) in
+      let f = rw (at-i, next) at (F .carried) in
+      rw (at-i, next) (go t e f)
+    where
+      go : (t : Bool) → eqb (getD is (i + 1) 0) (getD is i 0) ≡ t
+          → k ≤ span (here i ∷ here (i + 1) ∷ drop (i + 1 + 1) ws) → pick t 0 1 ≡ stepFor k (here i ∷ here (i + 1) ∷ drop (i + 1 + 1) ws)
+      go true e f = sym (step-same k (here i) (here (i + 1)) (drop (i + 1 + 1) ws) h f (eqb-true _ _ e))
+      go false e f = sym (step-rise k (here i) (here (i + 1)) (drop (i + 1 + 1) ws) h f (eqb-false _ _ e))
+
+  pub step-is : stepAt is i k ≡ stepFor k (drop i ws)
+  step-is = go (decLt k 2)
+    where
+      go : Dec (k < 2) → stepAt is i k ≡ stepFor k (drop i ws)
+      go (yes q) = rw (lt-ltb k 2 q, at-i) (sym (step-lone k (here i) (drop (i + 1) ws) (omega arith)))
+      go (no q) = rw (le-ltb k 2 (omega arith)) (by-next (omega arith) (eqb (getD is (i + 1) 0) (getD is i 0)) refl)
+
+  -- ITS FIRST TWO WORDS, as they are stored
+  pub two-words : (old : List ℕ) (at h : ℕ) → at + words k ≤ length old → h ≡ header (getD is i 0) (getD ms i 0) k (stepAt is i k)
+      → set (set old at (getD vs i 0)) (at + 1) h ≡ paste old at (command k (drop i ws)) 2
+  two-words old at h r e =
+      let C = command k (drop i ws) in
+      let one = next-word old C at 0 at 1 (getD vs i 0) old (omega arith) (omega arith) (omega arith) (omega (arith, F .long)) (paste-zero old at C) word-first in
+      next-word old C at 1 (at + 1) 2 h (set old at (getD vs i 0)) (omega arith) (omega arith) (omega (arith, F .low)) (omega (arith, F .long)) one
+      (e ∙ rw step-is word-header)
+
+-- ONE COMMAND AFTER ANOTHER
+
+-- the commands of the writes before i stand in the first `at` words; what is left to lay out is the packed list of the writes from i on
+pub record Laid (ws : List Write) (old : List ℕ) (i at : ℕ) (new : List ℕ) : Type 0 where
+  pub within : i ≤ length ws
+  pub stands : new ≡ take at (packed ws) ++ drop at old
+  pub rest : drop at (packed ws) ≡ packed (drop i ws)
+  pub fits : at + length (packed (drop i ws)) ≡ length (packed ws)
+
+pub laid-none : (ws : List Write) (old : List ℕ) → Laid ws old 0 0 old
+laid-none ws old = record { within = omega arith; stands = refl; rest = refl; fits = omega arith }
+
+-- one command more
+module _ (ws : List Write) (old : List ℕ) (i k at : ℕ) (new : List ℕ) (h : i < length ws) (e : k ≡ first span (drop i ws)) (D : Laid ws old i at new) where
+  abbrev P : List ℕ
+  P = packed ws
+
+  abbrev C : List ℕ
+  C = command k (drop i ws)
+
+  abbrev R : List ℕ
+  R = packed (drop (i + k) ws)
+
+  pub one-command : OneCommand (drop i ws) k
+  one-command = rw e (first-command (drop i ws) (omega (arith, length-drop i ws)))
+
+  next-within : i + k ≤ length ws
+  next-within = omega (arith, one-command .fits, one-command .low, length-drop i ws)
+
+  whole : drop at P ≡ C ++ R
+  whole = D .rest ∙ packed-more (drop i ws) (omega (arith, length-drop i ws)) ∙ rw (← e, drop-drop k i ws)
+
+  next-rest : drop (at + words k) P ≡ R
+  next-rest = sym (drop-drop (words k) at P) ∙ rw whole (drop-at C R (words k) (one-command .long))
+
+  pub next-fits : at + words k + length R ≡ length P
+  next-fits = omega (arith, D .fits, sym (ap length (D .rest)) ∙ ap length whole ∙ length-append C R, one-command .long)
+
+  grown : take (at + words k) P ≡ take at P ++ C
+  grown = take-add at (words k) P ∙ rw (whole, take-at C R (words k) (one-command .long))
+
+  moved : paste (take at P ++ drop at old) at C (words k) ≡ take (at + words k) P ++ drop (at + words k) old
+  moved =
+      let n = length-take-le at P (omega (arith, D .fits)) in
+      let X = take at P ++ drop at old in
+      let back : drop (at + words k) X ≡ drop (at + words k) old =
+      sym (drop-drop (words k) at X) ∙ rw (drop-at (take at P) (drop at old) at n) (drop-drop (words k) at old) in
+      rw (take-at (take at P) (drop at old) at n, take-all (words k) C (omega (arith, one-command .long)), back, grown)
+
+  pub laid-more : Laid ws old (i + k) (at + words k) (paste new at C (words k))
+  laid-more = record { within = next-within; stands = rw (D .stands) moved; rest = next-rest; fits = next-fits }
+
+-- at the end the whole list stands there
+pub laid-all : (ws : List Write) (old : List ℕ) (i at : ℕ) (new : List ℕ) → length ws ≤ i → Laid ws old i at new
+    → new ≡ packed ws ++ drop (length (packed ws)) old
+laid-all ws old i at new h D =
+    let n : length (drop i ws) ≡ 0 = length-drop i ws ∙ omega arith in
+    let z : at ≡ length (packed ws) = omega (arith, D .fits, ap length (packed-none (drop i ws) n)) in
+    D .stands ∙ rw (z, take-all (length (packed ws)) (packed ws) (omega arith))
