@@ -30,12 +30,12 @@ use Rattle.settings.specs.declared.records.Settings.{Settings}
 use Rattle.decode.specs.declared.Decoded.{Decoded}
 use Rattle.decode.specs.declared.Decoded.the-variants as decoded
 use Rattle.combiner.specs.declared.Given.{Given}
-use Rattle.fragment.specs.Tests.{verdictNumber}
+use Rattle.stores.specs.Tests.{verdictNumber}
 use Rattle.fragment.specs.Drawn.{outcomeOf, fogUnbuilt, operationUnbuilt, formatUnbuilt, largest, unbuiltId, drawnWith, drawnFrom, drawnOf}
 use Rattle.fragment.specs.Drawn as cuts
-use Rattle.fragment.specs.declared.Verdict.{Verdict}
-use Rattle.fragment.specs.declared.Verdict.the-variants as verdicts
-use Rattle.fragment.specs.declared.Stored.{Stored}
+use Rattle.stores.specs.declared.Verdict.{Verdict}
+use Rattle.stores.specs.declared.Verdict.the-variants as verdicts
+use Rattle.stores.specs.declared.Stored.{Stored}
 use Rattle.fragment.specs.declared.Drawn.{Drawn}
 use Rattle.fragment.specs.declared.Drawn.the-variants as drawn
 use Rattle.capi.specs.Calls.{call}

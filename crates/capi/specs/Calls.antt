@@ -10,10 +10,10 @@ use Rattle.settings.specs.declared.records.Colour.{Colour}
 use Rattle.decode.specs.declared.Decoded.{Decoded}
 use Rattle.decode.specs.declared.Decoded.the-variants as decoded
 use Rattle.combiner.specs.declared.Given.{Given}
-use Rattle.fragment.specs.Packed.{packed}
-use Rattle.fragment.specs.Tests.{verdictNumber}
+use Rattle.stores.specs.Packed.{packed}
+use Rattle.stores.specs.Tests.{verdictNumber}
 use Rattle.fragment.specs.Drawn.{drawnOf}
-use Rattle.fragment.specs.declared.Stored.{Stored}
+use Rattle.stores.specs.declared.Stored.{Stored}
 use Rattle.fragment.specs.declared.Drawn.{Drawn}
 use Rattle.fragment.specs.declared.Drawn.the-variants as drawn
 

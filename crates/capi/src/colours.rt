@@ -1,10 +1,10 @@
 // Colours and what is stored, as words: red in the low byte. The contracts cite specs/Calls.antt.
 ghost use mathlib.Core.Path.{_≡_};
-ghost use Rattle.fragment.specs.Packed.{packed};
+ghost use Rattle.stores.specs.Packed.{packed};
 ghost use Rattle.capi.specs.Calls.{colourOf, givenOf, storedOf, storedWords};
 use combiner::Given;
-use fragment::Stored;
 use settings::records::Colour;
+use stores::Stored;
 
 fn colour_of(x: u32) -> Colour
     ensures { λ r. ⌜ r ≡ colourOf x ⌝ }

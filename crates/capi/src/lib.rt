@@ -8,14 +8,14 @@ ghost use Rattle.registers.specs.Single.{writeAnswer, writeState};
 ghost use Rattle.reader.specs.Read.{readAnswer, readState};
 ghost use Rattle.packer.specs.Packing.{packAnswer, packSpace};
 ghost use Rattle.decode.specs.Decoded.{decodedOf};
-ghost use Rattle.fragment.specs.Tests.{verdictNumber};
+ghost use Rattle.stores.specs.Tests.{verdictNumber};
 ghost use Rattle.capi.specs.Calls.{call, answer, decodeCall, fieldsAfter, fragmentOf, fragmentCall, storedAfter};
 use decode::Decoded;
 use fragment::Drawn;
-use fragment::Verdict as Outcome;
 use packer::Packed;
 use reader::Verdict;
 use registers::Written;
+use stores::Verdict as Outcome;
 use words::Refusal;
 
 mod colours;

@@ -10,7 +10,7 @@ use Rattle.decode.specs.declared.Decoded.{Decoded}
 use Rattle.decode.proofs.HeldOnly.{held-only}
 use Rattle.combiner.specs.declared.Given.{Given}
 use Rattle.fragment.specs.Drawn.{drawnFrom, drawnOf}
-use Rattle.fragment.specs.declared.Stored.{Stored}
+use Rattle.stores.specs.declared.Stored.{Stored}
 
 pub drawn-held-only : (s s′ : State) → sized s ≡ sized s′
     → ((i : ℕ) → bitAnd (getD (s .cells) i 0) (bitsOf i) ≡ bitAnd (getD (s′ .cells) i 0) (bitsOf i))

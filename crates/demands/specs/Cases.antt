@@ -17,7 +17,7 @@ use Rattle.runs.specs.Packed.{writes, packed}
 use Rattle.combiner.specs.Modes.{combined}
 use Rattle.combiner.specs.Dot.{dot3Of}
 use Rattle.combiner.specs.declared.dot.Rgb.{Rgb}
-use Rattle.fragment.specs.Stencil.{operated, masked}
+use Rattle.stores.specs.Stencil.{operated, masked}
 
 pub record Case : Type 0 where
   pub got : List ℕ

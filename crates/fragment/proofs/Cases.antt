@@ -6,7 +6,7 @@ use Rattle.settings.specs.declared.records.Settings.{Settings}
 use Rattle.combiner.specs.declared.Given.{Given}
 use Rattle.fragment.specs.Drawn.{outcomeOf, unbuiltId, largest, refusal, drawnWith}
 use Rattle.fragment.specs.declared.Outcome.{Outcome}
-use Rattle.fragment.specs.declared.Stored.{Stored}
+use Rattle.stores.specs.declared.Stored.{Stored}
 use Rattle.fragment.specs.declared.Drawn.the-variants.{Done}
 
 module _ (s : Settings) (g : Given) (incoming : ℕ) (stored : Stored) where

@@ -16,24 +16,15 @@ use Rattle.decode.specs.declared.Decoded.{Decoded}
 use Rattle.decode.specs.declared.Decoded.the-variants as decoded
 use Rattle.combiner.specs.declared.Given.{Given}
 use Rattle.combiner.specs.Chain.{combinerOf}
-use Rattle.fragment.specs.Tests.{verdictNumber, verdictOf}
-use Rattle.fragment.specs.Stores.{stencilAfter, depthAfter, colourAfter}
-use Rattle.fragment.specs.declared.Verdict.{Verdict}
-use Rattle.fragment.specs.declared.Stored.{Stored}
-use Rattle.fragment.specs.declared.Judged.{Judged}
+use Rattle.stores.specs.Tests.{verdictNumber}
+use Rattle.stores.specs.Stores.{judgedOf, colourAfter}
+use Rattle.stores.specs.declared.Stored.{Stored}
+use Rattle.stores.specs.declared.Judged.{Judged}
 use Rattle.fragment.specs.declared.Outcome.{Outcome}
 use Rattle.fragment.specs.declared.Drawn.{Drawn}
 use Rattle.fragment.specs.declared.Drawn.the-variants.{Done, Refused}
 
 -- THE PARTS
-
--- the verdict, stencil and depth, from the result's alpha
-abbrev pub withVerdict : Framebuffer → ℕ → ℕ → ℕ → Verdict → Judged
-withVerdict f incoming stencil depth v =
-    record { verdict = v; stencil = stencilAfter f v stencil; depth = depthAfter f v incoming depth }
-
-unfoldable pub judgedOf : Framebuffer → ℕ → ℕ → ℕ → ℕ → Judged
-judgedOf f alpha incoming stencil depth = withVerdict f incoming stencil depth (verdictOf f alpha incoming stencil depth)
 
 abbrev pub storedAfter : Framebuffer → Colour → Stored → Judged → Outcome
 storedAfter f result stored j =

@@ -1,7 +1,1 @@
-pub mod Compare
-pub mod Stencil
-pub mod Logic
-pub mod Packed
-pub mod Tests
-pub mod Stores
 pub mod Drawn

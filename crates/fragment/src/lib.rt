@@ -1,40 +1,15 @@
 // One fragment: the combiner's result, the tests, and what is stored. The contracts cite specs/Drawn.antt.
 ghost use mathlib.Core.Path.{_≡_};
 ghost use Rattle.registers.specs.State.{st};
-ghost use Rattle.fragment.specs.Stores.{depthAfter};
-ghost use Rattle.fragment.specs.Drawn.{judgedOf, outcomeOf, operationUnbuilt, formatUnbuilt, unbuiltId, largest, drawnWith, drawnOf};
+ghost use Rattle.fragment.specs.Drawn.{outcomeOf, operationUnbuilt, formatUnbuilt, unbuiltId, largest, drawnWith, drawnOf};
 use combiner::Given;
 use decode::Decoded;
-use settings::records::Colour;
 use settings::records::ColourFormat;
 use settings::records::ColourOperation;
-use settings::records::Framebuffer;
 use settings::records::Settings;
+use stores::Stored;
+use stores::Verdict;
 use words::Refusal;
-
-mod colour;
-mod stencil;
-mod tests;
-
-pub enum Verdict {
-    AlphaFails,
-    StencilFails,
-    DepthFails,
-    Passes,
-}
-
-pub struct Stored {
-    pub colour: Colour,
-    pub stencil: u8,
-    pub depth: u32,
-}
-
-// The verdict, and the stencil and depth that are then stored.
-pub struct Judged {
-    pub verdict: Verdict,
-    pub stencil: u8,
-    pub depth: u32,
-}
 
 pub struct Outcome {
     pub verdict: Verdict,
@@ -46,37 +21,6 @@ pub enum Drawn {
     Refused(Refusal),
 }
 
-fn depth_after(f: Framebuffer, v: Verdict, incoming: u32, stored: u32) -> u32
-    ensures { λ r. ⌜ r ≡ depthAfter f v incoming stored ⌝ }
-{
-    match v {
-        Verdict::AlphaFails => stored,
-        Verdict::StencilFails => stored,
-        Verdict::DepthFails => stored,
-        Verdict::Passes => {
-            if (f.tests.depth.enable == 1)
-                & (f.tests.depth.depth == 1)
-                & (f.buffers.depth_writing.depth == 1)
-            {
-                incoming
-            } else {
-                stored
-            }
-        }
-    }
-}
-
-fn judge(f: Framebuffer, alpha: u8, incoming: u32, stencil: u8, depth: u32) -> Judged
-    ensures { λ r. ⌜ r ≡ judgedOf f alpha incoming stencil depth ⌝ }
-{
-    let verdict = tests::find_verdict(f, alpha, incoming, stencil, depth);
-    Judged {
-        verdict,
-        stencil: stencil::stencil_after(f, verdict, stencil),
-        depth: depth_after(f, verdict, incoming, depth),
-    }
-}
-
 fn find_outcome(s: Settings, g: Given, incoming: u32, stored: Stored) -> Outcome
     ensures { λ r. ⌜ r ≡ outcomeOf s g incoming stored ⌝ }
 {
@@ -85,12 +29,12 @@ fn find_outcome(s: Settings, g: Given, incoming: u32, stored: Stored) -> Outcome
     let f = s.framebuffer;
     let old = stored.colour;
     let result = combiner::combine(stages, buffer, g);
-    let j = judge(f, result.alpha, incoming, stored.stencil, stored.depth);
+    let j = stores::judge(f, result.alpha, incoming, stored.stencil, stored.depth);
     let verdict = j.verdict;
     Outcome {
         verdict,
         stored: Stored {
-            colour: colour::colour_after(f, verdict, result, old),
+            colour: stores::colour::colour_after(f, verdict, result, old),
             stencil: j.stencil,
             depth: j.depth,
         },

@@ -1,4 +1,5 @@
 pub mod Signed
+pub mod Bytes
 pub mod Table
 pub mod HeldBits
 pub mod HeldOnce

@@ -1,0 +1,4 @@
+pub mod Channels
+pub mod Comparisons
+pub mod Kept
+pub mod Determined

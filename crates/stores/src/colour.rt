@@ -1,0 +1,97 @@
+// The colour that is stored. The contracts cite specs/Logic.antt and specs/Stores.antt.
+ghost use mathlib.Core.Path.{_≡_};
+ghost use Rattle.settings.specs.Ranges.{bits};
+ghost use Rattle.settings.specs.Stages.{colourIn};
+ghost use Rattle.numbers.specs.Pick.{pick};
+ghost use Rattle.stores.specs.Logic.{logical, logicalColour};
+ghost use Rattle.stores.specs.Stores.{colourUnder, colourAfter};
+ghost use Rattle.stores.specs.Packed.{packed};
+use crate::Verdict;
+use settings::records::Colour;
+use settings::records::DepthColourMask;
+use settings::records::Framebuffer;
+
+// A colour as one word, as a colour register holds it.
+fn pack(c: Colour) -> u32
+    ensures { λ r. ⌜ r ≡ packed c ⌝ }
+{
+    c.red as u32 + c.green as u32 * 0x100 + c.blue as u32 * 0x10000 + c.alpha as u32 * 0x1000000
+}
+
+fn unpack(x: u32) -> Colour
+    ensures { λ r. ⌜ r ≡ colourIn (bits x) ⌝ }
+{
+    Colour {
+        red: (x % 256) as u8,
+        green: ((x >> 8) % 256) as u8,
+        blue: ((x >> 16) % 256) as u8,
+        alpha: ((x >> 24) % 256) as u8,
+    }
+}
+
+fn logic(op: u32, s: u32, d: u32) -> u32
+    ensures { λ r. ⌜ r ≡ logical 0xFFFFFFFF op s d ⌝ }
+{
+    let ones = 0xFFFFFFFF;
+    let by_code = [
+        0,
+        s & d,
+        s & (d ^ ones),
+        s,
+        ones,
+        s ^ ones,
+        d,
+        d ^ ones,
+        (s & d) ^ ones,
+        s | d,
+        (s | d) ^ ones,
+        s ^ d,
+        (s ^ d) ^ ones,
+        (s ^ ones) & d,
+        s | (d ^ ones),
+        (s ^ ones) | d,
+    ];
+    by_code[(op % 16) as usize]
+}
+
+// The four channels at once.
+fn logic_colour(op: u32, s: Colour, d: Colour) -> Colour
+    ensures { λ r. ⌜ r ≡ logicalColour op s d ⌝ }
+{
+    unpack(logic(op, pack(s), pack(d)))
+}
+
+fn keep_or(write: bool, new: u8, old: u8) -> u8
+    ensures { λ r. ⌜ r ≡ pick write new old ⌝ }
+{
+    if write { new } else { old }
+}
+
+fn colour_under(writing: u32, m: DepthColourMask, new: Colour, old: Colour) -> Colour
+    ensures { λ r. ⌜ r ≡ colourUnder writing m new old ⌝ }
+{
+    let any = writing != 0;
+    Colour {
+        red: keep_or(any & (m.red == 1), new.red, old.red),
+        green: keep_or(any & (m.green == 1), new.green, old.green),
+        blue: keep_or(any & (m.blue == 1), new.blue, old.blue),
+        alpha: keep_or(any & (m.alpha == 1), new.alpha, old.alpha),
+    }
+}
+
+pub fn colour_after(f: Framebuffer, v: Verdict, result: Colour, stored: Colour) -> Colour
+    ensures { λ r. ⌜ r ≡ colourAfter f v result stored ⌝ }
+{
+    let m = f.tests.depth;
+    match v {
+        Verdict::AlphaFails => stored,
+        Verdict::StencilFails => stored,
+        Verdict::DepthFails => stored,
+        Verdict::Passes => colour_under(
+            f.buffers.colour_writing,
+            m,
+            logic_colour(f.blending.logic_op, result, stored),
+            stored,
+        ),
+    }
+}
