@@ -76,7 +76,7 @@ fn apply_command(
     fog: &mut [u32],
     light: &mut [u32],
     slots: &[u8; 256],
-    held: &[u64; 66],
+    held: &[u32; 132],
     list: &[u32],
     at: usize,
     step: u32,
@@ -105,7 +105,7 @@ fn apply_at(
     fog: &mut [u32],
     light: &mut [u32],
     slots: &[u8; 256],
-    held: &[u64; 66],
+    held: &[u32; 132],
     list: &[u32],
     at: usize,
 )

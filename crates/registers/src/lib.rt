@@ -61,20 +61,6 @@ fn low_byte(id: u32) -> usize
     (id % 256) as usize
 }
 
-// The row is that of the id.
-fn is_row_of(row: u64, id: u32) -> bool
-    ensures { λ r. ⌜ r ≡ eqb (row / 0x100000000) id ⌝ }
-{
-    row / 0x100000000 == id as u64
-}
-
-// The held bits of a row.
-fn bits_of(row: u64) -> u32
-    ensures { λ r. ⌜ r ≡ row % 0x100000000 ⌝ }
-{
-    (row % 0x100000000) as u32
-}
-
 // A write to the fog port's data.
 fn put_fog(cells: &mut [u32], fog: &mut [u32], value: u32)
     requires { ⌜ (length (now cells) ≡ 768) × (length (now fog) ≡ 128) ⌝ }
@@ -106,7 +92,7 @@ pub fn put_one(
     fog: &mut [u32],
     light: &mut [u32],
     slots: &[u8; 256],
-    held: &[u64; 66],
+    held: &[u32; 132],
     id: u32,
     bytes: u32,
     value: u32,
@@ -115,10 +101,9 @@ pub fn put_one(
     ensures { λ _. ⌜ st (now (cells .exit)) (now (fog .exit)) (now (light .exit)) ≡ put (st (now (cells .entry)) (now (fog .entry)) (now (light .entry))) id bytes value ⌝ }
 {
     let slot = wide(slots[low_byte(id)]);
-    let row = held[slot];
-    if is_row_of(row, id) {
+    if held[2 * slot] == id {
         let i = id as usize;
-        cells[i] = merged(bits_of(row) & bytes, cells[i], value);
+        cells[i] = merged(held[2 * slot + 1] & bytes, cells[i], value);
         return;
     }
     if (0xE8 <= id) & (id <= 0xEF) {
