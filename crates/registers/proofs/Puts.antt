@@ -8,9 +8,9 @@ use lib.ListN.{getD, set}
 use lib.Dec.{eqb}
 use Rattle.numbers.specs.Bits.{merge}
 use Rattle.words.specs.Writes.{fogData, lightData}
+use Rattle.ports.specs.Ports.{fogCells, fogEntries, lightCells, lightEntries}
 use Rattle.registers.specs.State.{State, st}
 use Rattle.registers.specs.Held.{bitsOf}
-use Rattle.registers.specs.Ports.{fogCells, fogEntries, lightCells, lightEntries}
 use Rattle.registers.specs.Applied.{cellsAfter, put}
 use Rattle.registers.proofs.Lookup.{idAt, bitsAt, row-has}
 
