@@ -4,7 +4,7 @@ use mathlib.Core.List.{List, map}
 use Rattle.words.specs.Writes.{faultOf}
 use Rattle.words.specs.Commands.{run, places, commands, join, expansion}
 use Rattle.registers.specs.Held.{held, bitsIn, bitsOf}
-use Rattle.registers.specs.Ports.{fogCells, fogEntries}
+use Rattle.ports.specs.Ports.{fogCells, fogEntries}
 use Rattle.registers.specs.Applied.{cellsAfter, put, applyAll}
 use Rattle.reader.specs.Verdict.{firstFault, judge, verdict}
 use Rattle.settings.specs.Ranges.{signed}

@@ -13,7 +13,7 @@ use Rattle.numbers.specs.Bits.{spread, merge}
 use Rattle.words.specs.Writes.{Write, fogData, lightData}
 use Rattle.registers.specs.State.{State, st}
 use Rattle.registers.specs.Held.{held, bitsIn, bitsOf}
-use Rattle.registers.specs.Ports.{entry, rise, fogIndex, fogCells, fogEntries, lightTable, lightPlace, named, lightCells, lightEntries}
+use Rattle.ports.specs.Ports.{entry, rise, fogIndex, fogCells, fogEntries, lightTable, lightPlace, named, lightCells, lightEntries}
 use Rattle.registers.specs.Applied.{cellsAfter, put, apply, applyAll}
 use Rattle.demands.proofs.Alike.{Alike, heldIn, low, set-alike, merge-alike}
 

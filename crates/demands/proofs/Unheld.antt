@@ -20,7 +20,7 @@ use Rattle.numbers.proofs.Merge.{and-bit, merge-bit}
 use Rattle.words.specs.Writes.{Write, fogData, lightData}
 use Rattle.registers.specs.State.{State, st}
 use Rattle.registers.specs.Held.{held, bitsIn, bitsOf}
-use Rattle.registers.specs.Ports.{entry, rise, fogIndex, fogCells, fogEntries, lightTable, lightPlace, named, lightCells, lightEntries}
+use Rattle.ports.specs.Ports.{entry, rise, fogIndex, fogCells, fogEntries, lightTable, lightPlace, named, lightCells, lightEntries}
 use Rattle.registers.specs.Applied.{cellsAfter, put, apply, applyAll}
 
 -- what f sees of a state stays by a write, where it stays by each of the three things that a write can do

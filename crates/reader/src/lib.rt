@@ -76,7 +76,7 @@ fn apply_command(
     fog: &mut [u32],
     light: &mut [u32],
     slots: &[u8; 256],
-    held: &[u64; 66],
+    held: &[u32; 132],
     list: &[u32],
     at: usize,
     step: u32,
@@ -86,7 +86,7 @@ fn apply_command(
     ensures { λ _. ⌜ st (now (cells .exit)) (now (fog .exit)) (now (light .exit)) ≡ applyAll (st (now (cells .entry)) (now (fog .entry)) (now (light .entry))) (expand (now (list .entry)) at) ⌝ }
 {
     let h = list[at + 1];
-    let bytes = registers::spread_mask(h / 0x10000 % 16);
+    let bytes = ports::spread_mask(h / 0x10000 % 16);
     let mut id = h % 0x10000;
     registers::put_one(cells, fog, light, slots, held, id, bytes, list[at]);
     let mut left = h / 0x100000 % 256;
@@ -105,7 +105,7 @@ fn apply_at(
     fog: &mut [u32],
     light: &mut [u32],
     slots: &[u8; 256],
-    held: &[u64; 66],
+    held: &[u32; 132],
     list: &[u32],
     at: usize,
 )

@@ -1,5 +1,4 @@
 pub mod Lookup
-pub mod Named
 pub mod Puts
 pub mod Sizes
 pub mod Single

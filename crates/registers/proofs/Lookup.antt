@@ -3,7 +3,7 @@
 use mathlib.Core.Path.{_≡_, refl, sym, _∙_}
 use mathlib.Core.Bool.{Bool, true, false, not, _&&_}
 use mathlib.Core.List.{List, [], _∷_}
-use Prim.Native.Nat.{ℕ, _/_, _%_, _<_, _≤_}
+use Prim.Native.Nat.{ℕ, _+_, _*_, _%_, _<_, _≤_}
 use native.Mathlib.Decide.{decLt}
 use native.Mathlib.Omega.{arith}
 use lib.Dec.{eqb, ltb}
@@ -14,21 +14,24 @@ use Rattle.numbers.proofs.Tests.{is-true, and-true}
 use Rattle.numbers.proofs.Table.{at}
 use Rattle.words.specs.Writes.{fogData, lightData}
 use Rattle.registers.specs.Held.{Row, held, bitsIn, bitsOf}
-use Rattle.registers.specs.Tables.{heldTable, rowIn, slotTable}
+use Rattle.registers.specs.Tables.{rowWords, heldTable, rowIn, slotTable}
 
--- the row that is looked at for id k
-abbrev pub rowAt : ℕ → ℕ
-rowAt k = getD heldTable (getD slotTable (k % 256) 0) 0
+-- the row that is looked at for id k: its id, and its bits
+abbrev pub idAt : ℕ → ℕ
+idAt k = getD heldTable (2 * getD slotTable (k % 256) 0) 0
 
--- a row of k holds some bits, and k is no port's data; else k holds none
+abbrev pub bitsAt : ℕ → ℕ
+bitsAt k = getD heldTable (2 * getD slotTable (k % 256) 0 + 1) 0
+
+-- a row of k has the bits of k, which are some, and k is no port's data; else k holds none
 right : ℕ → Bool
 right k =
-    pick (eqb (rowAt k / 0x100000000) k)
-    (eqb (rowAt k % 0x100000000) (bitsOf k) && not (eqb (bitsOf k) 0) && not (fogData k) && not (lightData k))
+    pick (eqb (idAt k) k)
+    (eqb (bitsAt k) (bitsOf k) && not (eqb (bitsOf k) 0) && not (fogData k) && not (lightData k))
     (eqb (bitsOf k) 0)
 
 rule : (k : ℕ) → k < 768 → right k ≡ true
-unfolding right slotTable heldTable bitsOf bitsIn rowIn held
+unfolding right slotTable heldTable rowWords bitsOf bitsIn rowIn held
 rule k h = is-true (right k) (at (λ k _. right k) (replicate 768 0) tt k (omega (arith, length-replicate {A = ℕ} 768 0)))
 
 -- the row looked at is one of the table's, and its id is at most 2FFh
@@ -36,31 +39,31 @@ pub slot-small : (j : ℕ) → j < 256 → getD slotTable j 0 < 66
 unfolding slotTable rowIn held
 slot-small j h = ltb-true (getD slotTable j 0) 66 (is-true _ (at (λ _ r. ltb r 66) slotTable tt j h))
 
-pub row-small : (r : ℕ) → r < 66 → getD heldTable r 0 / 0x100000000 < 768
-unfolding heldTable held
-row-small r h = ltb-true (getD heldTable r 0 / 0x100000000) 768 (is-true _ (at (λ _ w. ltb (w / 0x100000000) 768) heldTable tt r h))
+id-small : (j : ℕ) → j < 256 → getD heldTable (2 * getD slotTable j 0) 0 < 768
+unfolding slotTable heldTable rowWords rowIn held
+id-small j h =
+    ltb-true (getD heldTable (2 * getD slotTable j 0) 0) 768 (is-true _ (at (λ _ r. ltb (getD heldTable (2 * r) 0) 768) slotTable tt j h))
 
 pub record Has (k : ℕ) : Type 0 where
   pub small : k < 768
-  pub bits : rowAt k % 0x100000000 ≡ bitsOf k
+  pub bits : bitsAt k ≡ bitsOf k
   pub some : eqb (bitsOf k) 0 ≡ false
   pub noFog : fogData k ≡ false
   pub noLight : lightData k ≡ false
 
-pub row-has : (k : ℕ) → eqb (rowAt k / 0x100000000) k ≡ true → Has k
+pub row-has : (k : ℕ) → idAt k ≡ k → Has k
 unfolding right
 row-has k e =
-    let d : rowAt k / 0x100000000 ≡ k = eqb-true (rowAt k / 0x100000000) k e in
-    let l : k < 768 = omega (arith, row-small (getD slotTable (k % 256) 0) (slot-small (k % 256) (omega arith))) in
-    let B = eqb (rowAt k % 0x100000000) (bitsOf k) in
+    let l : k < 768 = omega (arith, e, id-small (k % 256) (omega arith)) in
+    let B = eqb (bitsAt k) (bitsOf k) in
     let N = not (eqb (bitsOf k) 0) in
     let F = not (fogData k) in
-    let p = and-true (B && N && F) (not (lightData k)) (rw e at (rule k l)) in
+    let p = and-true (B && N && F) (not (lightData k)) (rw (eq-eqb (idAt k) k e) at (rule k l)) in
     let q = and-true (B && N) F (p .0) in
     let s = and-true B N (q .0) in
     record {
       small = l;
-      bits = eqb-true (rowAt k % 0x100000000) (bitsOf k) (s .0);
+      bits = eqb-true (bitsAt k) (bitsOf k) (s .0);
       some = not-true (eqb (bitsOf k) 0) (s .1);
       noFog = not-true (fogData k) (q .1);
       noLight = not-true (lightData k) (p .1);
@@ -83,10 +86,10 @@ above-none : (k : ℕ) → 768 ≤ k → bitsOf k ≡ 0
 unfolding bitsOf below held
 above-none k h = none-above held k refl h
 
-by-size : (k : ℕ) → Dec (k < 768) → eqb (rowAt k / 0x100000000) k ≡ false → eqb (bitsOf k) 0 ≡ true
+by-size : (k : ℕ) → Dec (k < 768) → (idAt k ≡ k → ⊥) → eqb (bitsOf k) 0 ≡ true
 unfolding right
-by-size k (yes l) e = rw e at (rule k l)
+by-size k (yes l) e = rw (ne-eqb (idAt k) k e) at (rule k l)
 by-size k (no l) e = eq-eqb (bitsOf k) 0 (above-none k (omega arith))
 
-pub row-none : (k : ℕ) → eqb (rowAt k / 0x100000000) k ≡ false → eqb (bitsOf k) 0 ≡ true
+pub row-none : (k : ℕ) → (idAt k ≡ k → ⊥) → eqb (bitsOf k) 0 ≡ true
 row-none k e = by-size k (decLt k 768) e

@@ -8,7 +8,6 @@ use borrow.Fn.Kinds.{Dens}
 use denote.Ref.{now}
 use Rattle.numbers.specs.Answer.{Answer, answered, refused}
 use Rattle.numbers.specs.Settled.{Settles, settled}
-use Rattle.numbers.specs.Bits.{spread}
 use Rattle.words.specs.Writes.{writing}
 use Rattle.words.proofs.Once.{refusal-one}
 use Rattle.registers.specs.State.{State, st, sized}
@@ -19,8 +18,6 @@ use Rattle.registers.specs.declared.Written.{Written}
 use Rattle.registers.specs.declared.Written.the-variants.{Done, Refused}
 use Rattle.registers.proofs.is_sized.Reads as is-sized
 use Rattle.registers.proofs.is_sized.Kinds as is-sized-kinds
-use Rattle.registers.proofs.spread_mask.Reads as spread-mask
-use Rattle.registers.proofs.spread_mask.Kinds as spread-mask-kinds
 use Rattle.registers.proofs.put_one.Reads as put-one
 use Rattle.registers.proofs.put_one.Kinds as put-one-kinds
 use Rattle.registers.proofs.held.slot_table.Reads as slot-table
@@ -49,9 +46,6 @@ is-sized-settled κs a =
     settled _ _ (λ r. r) (λ r r′ e. e) (sized (st (now (a .0)) (now (a .1 .0)) (now (a .1 .1 .0)))) tt (λ r e p. (p, refl))
 
 -- the steps below the entry points, which other crates of the library call
-pub spread-mask-settled : (κs : Lfts 0) (a : Dens κs spread-mask-kinds.ps) → Settles (λ e. tt {0}) (spread-mask.Post κs a)
-spread-mask-settled κs a = settled _ _ (λ r. r) (λ r r′ e. e) (spread (a .0)) tt (λ r e p. (p, refl))
-
 pub slot-table-settled : (κs : Lfts 0) (a : Dens κs slot-table-kinds.ps) → Settles (λ e. tt {0}) (slot-table.Post κs a)
 slot-table-settled κs a = settled _ _ (λ r. r) (λ r r′ e. e) slotTable tt (λ r e p. (p, refl))
 

@@ -2,17 +2,17 @@
 use mathlib.Core.Path.{_≡_, refl}
 use mathlib.Core.Bool.{true, false}
 use mathlib.Core.List.{List}
-use Prim.Native.Nat.{ℕ, _/_, _%_}
+use Prim.Native.Nat.{ℕ}
 use lib.Bits.{bitAnd}
 use lib.ListN.{getD, set}
 use lib.Dec.{eqb}
 use Rattle.numbers.specs.Bits.{merge}
 use Rattle.words.specs.Writes.{fogData, lightData}
+use Rattle.ports.specs.Ports.{fogCells, fogEntries, lightCells, lightEntries}
 use Rattle.registers.specs.State.{State, st}
 use Rattle.registers.specs.Held.{bitsOf}
-use Rattle.registers.specs.Ports.{fogCells, fogEntries, lightCells, lightEntries}
 use Rattle.registers.specs.Applied.{cellsAfter, put}
-use Rattle.registers.proofs.Lookup.{rowAt, row-has}
+use Rattle.registers.proofs.Lookup.{idAt, bitsAt, row-has}
 
 module _ (s : State) (i e v : ℕ) where
   pub put-fog-data : fogData i ≡ true → put s i e v ≡ st (fogCells (s .cells)) (fogEntries (s .cells) (s .fog) v) (s .light)
@@ -24,8 +24,8 @@ module _ (s : State) (i e v : ℕ) where
   unfolding put
   put-light-data f g = rw (f, g)
 
-  pub put-held : eqb (rowAt i / 0x100000000) i ≡ true
-      → put s i e v ≡ st (set (s .cells) i (merge (bitAnd (rowAt i % 0x100000000) e) (getD (s .cells) i 0) v)) (s .fog) (s .light)
+  pub put-held : idAt i ≡ i
+      → put s i e v ≡ st (set (s .cells) i (merge (bitAnd (bitsAt i) e) (getD (s .cells) i 0) v)) (s .fog) (s .light)
   unfolding put cellsAfter
   put-held h = let b = row-has i h in rw (b .noFog, b .noLight, b .some, b .bits)
 

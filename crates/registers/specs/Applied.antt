@@ -7,9 +7,9 @@ use lib.ListN.{getD, set}
 use Rattle.numbers.specs.Pick.{pick}
 use Rattle.numbers.specs.Bits.{spread, merge}
 use Rattle.words.specs.Writes.{Write, fogData, lightData}
+use Rattle.ports.specs.Ports.{fogCells, fogEntries, lightCells, lightEntries}
 use Rattle.registers.specs.State.{State, st}
 use Rattle.registers.specs.Held.{bitsOf}
-use Rattle.registers.specs.Ports.{fogCells, fogEntries, lightCells, lightEntries}
 
 -- a write to a held register replaces, of the bits it holds, those in the bytes e; to any other it changes nothing
 unfoldable pub cellsAfter : List ℕ → ℕ → ℕ → ℕ → List ℕ

@@ -1,16 +1,17 @@
--- The tables that a look-up goes by: the rows of the held table as numbers, and for each low byte of an id the row to look at. Not of the document.
+-- The tables that a look-up goes by: the rows of the held table as words, and for each low byte of an id the row to look at. Not of the document.
 use mathlib.Core.List.{List, [], _∷_, map}
-use Prim.Native.Nat.{ℕ, zero, suc, _+_, _*_, _%_}
+use Prim.Native.Nat.{ℕ, zero, suc, _%_}
 use lib.Dec.{eqb}
 use Rattle.numbers.specs.Pick.{pick}
 use Rattle.registers.specs.Held.{Row, held}
 
--- a row as one number: its id, and below it its 32 bits
-abbrev pub rowWord : Row → ℕ
-rowWord r = r .id * 0x100000000 + r .bits
+-- rows as words, two a row: its id, and the bits that it holds
+unfoldable pub rowWords : List Row → List ℕ
+rowWords [] = []
+rowWords (r ∷ rs) = r .id ∷ r .bits ∷ rowWords rs
 
 unfoldable pub heldTable : List ℕ
-heldTable = map rowWord held
+heldTable = rowWords held
 
 -- the number of the first row whose id has the low byte j, counted from 0; that of the rows where there is none
 unfoldable pub rowIn : List Row → ℕ → ℕ

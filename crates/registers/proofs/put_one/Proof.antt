@@ -1,25 +1,27 @@
 -- Each way out is one case of `put`. Assumes nothing.
 use mathlib.Core.Path.{_≡_, sym, _∙_}
-use Prim.Native.Nat.{_/_, _%_, _<_}
+use Prim.Native.Nat.{_+_, _*_, _%_, _<_}
 use native.Mathlib.Omega.{arith}
-use lib.Dec.{eqb}
 use lib.ListN.{getD}
 use Rattle.registers.specs.Tables.{heldTable, slotTable}
-use Rattle.registers.proofs.Lookup.{rowAt, slot-small, row-has, row-none}
+use Rattle.registers.proofs.Lookup.{idAt, bitsAt, slot-small, row-has, row-none}
 use Rattle.registers.proofs.Puts.{put-held, put-fog-data, put-light-data, put-free}
 use borrow.Author.Needs.{needs}
 use Rattle.registers.proofs.put_one.Statement.{statement}
 use Rattle.registers.proofs.put_one.Tie as tie
 
--- the slot that is looked at, and the row in it
+-- the slot that is looked at, and the id and the bits of its row
 slot-of : (c : tie.After-wide) → c .wide .result ≡ getD slotTable (c .before .before .before .before .before .before .args .id % 256) 0
 slot-of c = c .wide .ensures ∙ rw (c .before .before .low-byte .ensures .0, c .before .before .before .before .before .before .pre .3)
 
 small : (c : tie.After-wide) → c .wide .result < 66
 small c = rw (slot-of c) (slot-small (c .before .before .before .before .before .before .args .id % 256) (omega arith))
 
-test : (c : tie.After-is-row-of) → eqb (rowAt (c .before .before .before .before .before .before .before .before .args .id) / 0x100000000) (c .before .before .before .before .before .before .before .before .args .id) ≡ c .is-row-of .result
-test c = sym (c .is-row-of .ensures ∙ rw (c .before .before .before .before .before .before .before .before .pre .4, slot-of (c .before .before)))
+id-of : (c : tie.After-wide) → idAt (c .before .before .before .before .before .before .args .id) ≡ getD (c .before .before .before .before .before .before .args .held .now) (2 * c .wide .result) 0
+id-of c = rw (c .before .before .before .before .before .before .pre .4, slot-of c)
+
+bits-of : (c : tie.After-wide) → bitsAt (c .before .before .before .before .before .before .args .id) ≡ getD (c .before .before .before .before .before .before .args .held .now) (2 * c .wide .result + 1) 0
+bits-of c = rw (c .before .before .before .before .before .before .pre .4, slot-of c)
 
 low-byte-requires : tie.Need-low-byte-requires
 low-byte-requires c κs = search needs
@@ -30,29 +32,42 @@ element-copy-out-wide c = search needs
 wide-requires : tie.Need-wide-requires
 wide-requires c κs = search needs
 
-mul-row : tie.Need-mul-row
-mul-row c =
+mul-if1 : tie.Need-mul-if1
+mul-if1 c =
     let s : c .wide .result < 66 = small c in omega arith
 
-element-copy-out-row : tie.Need-element-copy-out-row
-element-copy-out-row c =
+mul-if1-2 : tie.Need-mul-if1-2
+mul-if1-2 c =
     let s : c .wide .result < 66 = small c in omega arith
 
-is-row-of-requires : tie.Need-is-row-of-requires
-is-row-of-requires c κs = search needs
-
-bits-of-requires : tie.Need-bits-of-requires
-bits-of-requires c κs = search needs
+element-copy-out-if1 : tie.Need-element-copy-out-if1
+element-copy-out-if1 c =
+    let s : c .wide .result < 66 = small c in omega arith
 
 mul-merged : tie.Need-mul-merged
-mul-merged c = search needs
+mul-merged c =
+    let s : c .before .before .wide .result < 66 = small (c .before .before) in omega arith
+
+add-merged : tie.Need-add-merged
+add-merged c =
+    let s : c .before .before .wide .result < 66 = small (c .before .before) in omega arith
+
+mul-merged-2 : tie.Need-mul-merged-2
+mul-merged-2 c =
+    let s : c .before .before .wide .result < 66 = small (c .before .before) in omega arith
+
+element-copy-out-merged : tie.Need-element-copy-out-merged
+element-copy-out-merged c =
+    let s : c .before .before .wide .result < 66 = small (c .before .before) in omega arith
+
+mul-merged-3 : tie.Need-mul-merged-3
+mul-merged-3 c = search needs
 
 slice-read-merged : tie.Need-slice-read-merged
 slice-read-merged c =
     let at-if1 = c .before .before in
-    let at-is-row-of = at-if1 .before in
-    let at-start = at-is-row-of .before .before .before .before .before .before .before .before in
-    let i = row-has (at-start .args .id) (test at-is-row-of ∙ at-if1 .if1 .taken) .small in omega arith
+    let at-wide = at-if1 .before .before in
+    let i = row-has (at-wide .before .before .before .before .before .before .args .id) (id-of at-wide ∙ at-if1 .if1 .taken) .small in omega arith
 
 merged-requires : tie.Need-merged-requires
 merged-requires c κs = search needs
@@ -63,23 +78,19 @@ mul-cells c = search needs
 slice-write-cells : tie.Need-slice-write-cells
 slice-write-cells c =
     let at-if1 = c .before .before .before in
-    let at-is-row-of = at-if1 .before in
-    let at-start = at-is-row-of .before .before .before .before .before .before .before .before in
-    let i = row-has (at-start .args .id) (test at-is-row-of ∙ at-if1 .if1 .taken) .small in omega arith
+    let at-wide = at-if1 .before .before in
+    let i = row-has (at-wide .before .before .before .before .before .before .args .id) (id-of at-wide ∙ at-if1 .if1 .taken) .small in omega arith
 
 same-length : tie.Need-same-length
 same-length c = search needs
 
 returns : tie.Need-returns
 returns c =
-    let at-bits-of = c .before .before in
-    let at-if1 = at-bits-of .before in
-    let at-is-row-of = at-if1 .before in
-    let at-wide = at-is-row-of .before .before in
-    let at-start = at-wide .before .before .before .before .before .before in
-    let a = at-start in
-    let h = test at-is-row-of ∙ at-if1 .if1 .taken in
-    rw (put-held _ (a .args .id) (a .args .bytes) (a .args .value) h, c .merged .ensures, at-bits-of .bits-of .ensures, a .pre .4, slot-of at-wide)
+    let at-if1 = c .before .before .before in
+    let at-wide = at-if1 .before .before in
+    let a = at-wide .before .before .before .before .before .before in
+    let h = id-of at-wide ∙ at-if1 .if1 .taken in
+    rw (put-held _ (a .args .id) (a .args .bytes) (a .args .value) h, c .merged .ensures, bits-of at-wide)
 
 put-fog-requires : tie.Need-put-fog-requires
 put-fog-requires c κs = search needs
@@ -116,10 +127,9 @@ returns-4 : tie.Need-returns-4
 returns-4 c =
     let at-if2 = c .before in
     let at-if1 = at-if2 .before in
-    let at-is-row-of = at-if1 .before in
-    let at-start = at-is-row-of .before .before .before .before .before .before .before .before in
-    let a = at-start in
-    let h = row-none (a .args .id) (test at-is-row-of ∙ at-if1 .if1 .left) in
+    let at-wide = at-if1 .before .before in
+    let a = at-wide .before .before .before .before .before .before in
+    let h = row-none (a .args .id) (λ e. at-if1 .if1 .left (sym (id-of at-wide) ∙ e)) in
     sym (put-free _ (a .args .id) (a .args .bytes) (a .args .value) (at-if2 .if2 .left) (c .if3 .left) h)
 
 pub put-one-spec : {M : Type 1} → statement M
@@ -129,11 +139,14 @@ put-one-spec =
     low-byte-requires
     element-copy-out-wide
     wide-requires
-    mul-row
-    element-copy-out-row
-    is-row-of-requires
-    bits-of-requires
+    mul-if1
+    mul-if1-2
+    element-copy-out-if1
     mul-merged
+    add-merged
+    mul-merged-2
+    element-copy-out-merged
+    mul-merged-3
     slice-read-merged
     merged-requires
     mul-cells

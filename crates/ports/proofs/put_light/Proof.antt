@@ -1,12 +1,12 @@
-use lib.ListN.{getD}
-use Prim.Native.Nat.{_<_, _/_, _%_}
 -- Assumes nothing.
+use Prim.Native.Nat.{_<_, _/_, _%_}
+use lib.ListN.{getD}
 use native.Mathlib.Omega.{arith}
-use Rattle.registers.specs.Ports.{lightCells, lightEntries}
-use Rattle.registers.proofs.Named.{named-small}
+use Rattle.ports.specs.Ports.{lightCells, lightEntries}
+use Rattle.ports.proofs.Named.{named-small}
 use borrow.Author.Needs.{needs}
-use Rattle.registers.proofs.put_light.Statement.{statement}
-use Rattle.registers.proofs.put_light.Tie as tie
+use Rattle.ports.proofs.put_light.Statement.{statement}
+use Rattle.ports.proofs.put_light.Tie as tie
 
 slice-read-x : tie.Need-slice-read-x
 slice-read-x c = search needs

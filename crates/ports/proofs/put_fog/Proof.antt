@@ -1,8 +1,8 @@
 -- Assumes nothing.
-use Rattle.registers.specs.Ports.{fogCells, fogEntries}
+use Rattle.ports.specs.Ports.{fogCells, fogEntries}
 use borrow.Author.Needs.{needs}
-use Rattle.registers.proofs.put_fog.Statement.{statement}
-use Rattle.registers.proofs.put_fog.Tie as tie
+use Rattle.ports.proofs.put_fog.Statement.{statement}
+use Rattle.ports.proofs.put_fog.Tie as tie
 
 slice-read-x : tie.Need-slice-read-x
 slice-read-x c = search needs
