@@ -53,6 +53,33 @@ void few_ids(struct run *run, size_t writes);
 void rising_ids(struct run *run, size_t writes);
 void equal_ids(struct run *run, size_t writes);
 
+/* workloads.c: what is measured. Both versions are handed the same, and each leaves what it leaves in a side of its own. */
+#ifndef FRAGMENTS
+#define FRAGMENTS 64
+#endif
+
+struct side {
+    struct state state;
+    uint32_t space[2 * PICA_MOST_WRITES];
+    uint32_t stored[FRAGMENTS][PICA_STORED];
+    uint64_t answers[FRAGMENTS];
+};
+
+struct workload {
+    const char *what;
+    void (*list)(struct list *, size_t); /* of a reading */
+    void (*run)(struct run *, size_t);   /* of a packing */
+    size_t amount;                       /* words, writes, or states */
+    uint32_t number;                     /* the refusal that the calls must give, 0 for none */
+};
+
+enum { WORKLOADS = 15 };
+extern const struct workload workloads[WORKLOADS];
+
+/* Makes what the workload hands in, and answers how many words, writes or fragments make a round. */
+size_t prepared(const struct workload *w);
+void work(const struct workload *w, const struct library *l, struct side *s, unsigned times);
+
 /* compare.c: how many random cases both answered alike; 0 where one differed, which is then shown. */
 unsigned compare_random(void);
 
