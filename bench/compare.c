@@ -1,4 +1,4 @@
-/* Random cases, most of them near the edges of the rules: both libraries must give the same answer and leave the same in every buffer. */
+/* Random cases, many of them near the edges of the rules: both libraries must give the same answer and leave the same in every buffer. */
 #include <stdio.h>
 #include <string.h>
 

@@ -9,7 +9,7 @@
  * BUFFERS. Each buffer is a pointer to 32-bit words, with its length in words where the length is not fixed. All of them belong to the caller: the
  * library keeps nothing between calls and allocates nothing. The functions ask only that the pointers and lengths are true:
  *   - a pointer is aligned for uint32_t and not null. For a length of 0 any such pointer will do;
- *   - buffers that are passed together do not overlap.
+ *   - a buffer that a call writes to overlaps no other that it is lent.
  * Everything else is answered or refused, whatever the words are. A refused call changes no buffer.
  *
  * A STATE is three buffers: 768 register cells (the cell of register i is cells[i]), 128 fog entries, and 6,144 light entries (entry k of table t is
@@ -106,7 +106,7 @@ uint64_t pica_write(uint32_t *cells, size_t cells_length, uint32_t *fog, size_t 
  *   7   at 0
  *   8   at 0
  *   then for each write in turn, with its index as place: 9, 3, 4 or 5
- *   10  with the words needed as place. So a call with space_length 0 asks for the length of the list.
+ *   10  with the words needed as place. So a call with space_length 0 asks for the length of the list; an empty run is answered with 0.
  * ids, masks, values: only read.
  * space: the list stands at its start, and past the list it keeps its contents; on a refusal it is as it was.
  */

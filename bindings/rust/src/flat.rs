@@ -1,4 +1,4 @@
-//! The flat order of the decoded fields: ids ascending, then lowest bit first. It is listed here and nowhere else, and both directions follow it.
+//! The flat order of the decoded fields: ids ascending, then lowest bit first. It is listed once in this crate's source, and both directions follow it.
 
 use crate::{Blending, BufferFog, Buffers, Colour, LightPort, Rasteriser, Settings, Stage, Tests};
 

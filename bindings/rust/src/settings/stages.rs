@@ -86,28 +86,29 @@ pub struct Stages {
     pub stage5: Stage,
 }
 
-/// Register E0: fog mode, and which stages feed the buffer.
+/// Register E0: the fog mode, and what stages 2 to 5 see as Previous buffer. Where the bit of stage k is 1, stage k+1 sees as buffer what stage k saw as
+/// Previous, else the buffer that stage k saw.
 #[derive(Clone, Copy, Debug, Default, PartialEq, Eq, Hash)]
 pub struct UpdateBuffer {
     /// Bits 0-2: the fog mode.
     pub fog_mode: u32,
     /// Bit 3: the source of the density.
     pub density_source: u32,
-    /// Bit 8: 1 where stage 1 feeds the RGB of the buffer.
+    /// Bit 8: stage 1's, for RGB.
     pub rgb1: u32,
-    /// Bit 9: 1 where stage 2 feeds the RGB of the buffer.
+    /// Bit 9: stage 2's, for RGB.
     pub rgb2: u32,
-    /// Bit 10: 1 where stage 3 feeds the RGB of the buffer.
+    /// Bit 10: stage 3's, for RGB.
     pub rgb3: u32,
-    /// Bit 11: 1 where stage 4 feeds the RGB of the buffer.
+    /// Bit 11: stage 4's, for RGB.
     pub rgb4: u32,
-    /// Bit 12: 1 where stage 1 feeds the alpha of the buffer.
+    /// Bit 12: stage 1's, for alpha.
     pub alpha1: u32,
-    /// Bit 13: 1 where stage 2 feeds the alpha of the buffer.
+    /// Bit 13: stage 2's, for alpha.
     pub alpha2: u32,
-    /// Bit 14: 1 where stage 3 feeds the alpha of the buffer.
+    /// Bit 14: stage 3's, for alpha.
     pub alpha3: u32,
-    /// Bit 15: 1 where stage 4 feeds the alpha of the buffer.
+    /// Bit 15: stage 4's, for alpha.
     pub alpha4: u32,
     /// Bit 16: 1 where depth is flipped for fog.
     pub z_flip: u32,
