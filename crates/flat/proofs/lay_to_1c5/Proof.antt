@@ -50,20 +50,28 @@ same-length c = search needs
 
 returns : tie.Need-returns
 returns c =
-    let a = c .before .before .before .before .before .before .before .before .before .before .before .before .before .before .before .before .before .before .before .before .before .before .before .before .before .args in
+    let port = c .before .before in
+    let port-made = port .before .before .before in
+    let buffers = port-made .before .before .before in
+    let buffers-made = buffers .before .before .before in
+    let tests = buffers-made .before .before .before in
+    let tests-made = tests .before .before .before in
+    let blending = tests-made .before .before .before in
+    let blending-made = blending .before .before .before in
+    let a = blending-made .before .before .args in
     let old = a .fields .now in
     let w0 : List ℕ = blendingWords (a .framebuffer .blending) in
-    let to175 = c .before .before .before .before .before .before .before .before .before .before .before .before .before .before .before .before .before .before .before .before .lay .last .0 in
+    let to175 = blending .lay .last .0 in
     let front = take 160 old in
-    let at175 = first w0 old (c .before .before .before .before .before .before .before .before .before .before .before .before .before .before .before .before .before .before .before .before .before .before .before .blending-words .result) to175 160 175 (c .before .before .before .before .before .before .before .before .before .before .before .before .before .before .before .before .before .before .before .before .lay .ensures) (c .before .before .before .before .before .before .before .before .before .before .before .before .before .before .before .before .before .before .before .before .before .before .before .blending-words .ensures) refl in
+    let at175 = first w0 old (blending-made .blending-words .result) to175 160 175 (blending .lay .ensures) (blending-made .blending-words .ensures) refl in
     let w1 : List ℕ = testsWords (a .framebuffer .tests) in
-    let to193 = c .before .before .before .before .before .before .before .before .before .before .before .before .before .before .lay2 .last .0 in
-    let at193 = more front w0 w1 to175 (c .before .before .before .before .before .before .before .before .before .before .before .before .before .before .before .before .before .tests-words .result) to193 175 193 at175 (c .before .before .before .before .before .before .before .before .before .before .before .before .before .before .lay2 .ensures) (c .before .before .before .before .before .before .before .before .before .before .before .before .before .before .before .before .before .tests-words .ensures) refl in
+    let to193 = tests .lay2 .last .0 in
+    let at193 = more front w0 w1 to175 (tests-made .tests-words .result) to193 175 193 at175 (tests .lay2 .ensures) (tests-made .tests-words .ensures) refl in
     let w2 : List ℕ = buffersWords (a .framebuffer .buffers) in
-    let to202 = c .before .before .before .before .before .before .before .before .lay3 .last .0 in
-    let at202 = more front (w0 ++ w1) w2 to193 (c .before .before .before .before .before .before .before .before .before .before .before .buffers-words .result) to202 193 202 at193 (c .before .before .before .before .before .before .before .before .lay3 .ensures) (c .before .before .before .before .before .before .before .before .before .before .before .buffers-words .ensures) refl in
+    let to202 = buffers .lay3 .last .0 in
+    let at202 = more front (w0 ++ w1) w2 to193 (buffers-made .buffers-words .result) to202 193 202 at193 (buffers .lay3 .ensures) (buffers-made .buffers-words .ensures) refl in
     let w3 : List ℕ = lightPortWords (a .port) in
-    more front ((w0 ++ w1) ++ w2) w3 to202 (c .before .before .before .before .before .light-port-words .result) (c .before .before .lay4 .last .0) 202 204 at202 (c .before .before .lay4 .ensures) (c .before .before .before .before .before .light-port-words .ensures) refl
+    more front ((w0 ++ w1) ++ w2) w3 to202 (port-made .light-port-words .result) (port .lay4 .last .0) 202 204 at202 (port .lay4 .ensures) (port-made .light-port-words .ensures) refl
 
 pub lay-to-1c5-spec : {M : Type 1} → statement M
 lay-to-1c5-spec =

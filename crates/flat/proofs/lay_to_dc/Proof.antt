@@ -35,23 +35,29 @@ same-length c = search needs
 
 returns : tie.Need-returns
 returns c =
-    let a = c .before .before .before .before .before .before .before .before .before .before .before .before .before .before .before .before .before .before .before .before .before .before .before .args in
+    let in3 = c .before .before in
+    let in2 = in3 .before .before .before .before in
+    let in1 = in2 .before .before .before .before in
+    let in0 = in1 .before .before .before .before in
+    let raster = in0 .before .before .before .before in
+    let raster-words = raster .before .before .before in
+    let a = raster-words .before .before .args in
     let old = a .fields .now in
     let w0 : List ℕ = rasteriserWords (a .rasteriser) in
-    let to20 = c .before .before .before .before .before .before .before .before .before .before .before .before .before .before .before .before .before .before .lay .last .0 in
+    let to20 = raster .lay .last .0 in
     let front = take 0 old in
-    let at20 = first w0 old (c .before .before .before .before .before .before .before .before .before .before .before .before .before .before .before .before .before .before .before .before .before .rasteriser-words .result) to20 0 20 (c .before .before .before .before .before .before .before .before .before .before .before .before .before .before .before .before .before .before .lay .ensures) (c .before .before .before .before .before .before .before .before .before .before .before .before .before .before .before .before .before .before .before .before .before .rasteriser-words .ensures) refl in
+    let at20 = first w0 old (raster-words .rasteriser-words .result) to20 0 20 (raster .lay .ensures) (raster-words .rasteriser-words .ensures) refl in
     let w1 : List ℕ = stageWords (a .stages .stage0) in
-    let to40 = c .before .before .before .before .before .before .before .before .before .before .before .before .before .before .lay-stage .last .0 in
-    let at40 = more front w0 w1 to20 w1 to40 20 40 at20 (c .before .before .before .before .before .before .before .before .before .before .before .before .before .before .lay-stage .ensures) (refl) refl in
+    let to40 = in0 .lay-stage .last .0 in
+    let at40 = more front w0 w1 to20 w1 to40 20 40 at20 (in0 .lay-stage .ensures) refl refl in
     let w2 : List ℕ = stageWords (a .stages .stage1) in
-    let to60 = c .before .before .before .before .before .before .before .before .before .before .lay-stage2 .last .0 in
-    let at60 = more front (w0 ++ w1) w2 to40 w2 to60 40 60 at40 (c .before .before .before .before .before .before .before .before .before .before .lay-stage2 .ensures) (refl) refl in
+    let to60 = in1 .lay-stage2 .last .0 in
+    let at60 = more front (w0 ++ w1) w2 to40 w2 to60 40 60 at40 (in1 .lay-stage2 .ensures) refl refl in
     let w3 : List ℕ = stageWords (a .stages .stage2) in
-    let to80 = c .before .before .before .before .before .before .lay-stage3 .last .0 in
-    let at80 = more front ((w0 ++ w1) ++ w2) w3 to60 w3 to80 60 80 at60 (c .before .before .before .before .before .before .lay-stage3 .ensures) (refl) refl in
+    let to80 = in2 .lay-stage3 .last .0 in
+    let at80 = more front ((w0 ++ w1) ++ w2) w3 to60 w3 to80 60 80 at60 (in2 .lay-stage3 .ensures) refl refl in
     let w4 : List ℕ = stageWords (a .stages .stage3) in
-    more front (((w0 ++ w1) ++ w2) ++ w3) w4 to80 w4 (c .before .before .lay-stage4 .last .0) 80 100 at80 (c .before .before .lay-stage4 .ensures) (refl) refl
+    more front (((w0 ++ w1) ++ w2) ++ w3) w4 to80 w4 (in3 .lay-stage4 .last .0) 80 100 at80 (in3 .lay-stage4 .ensures) refl refl
 
 pub lay-to-dc-spec : {M : Type 1} → statement M
 lay-to-dc-spec =

@@ -38,20 +38,26 @@ same-length c = search needs
 
 returns : tie.Need-returns
 returns c =
-    let a = c .before .before .before .before .before .before .before .before .before .before .before .before .before .before .before .before .before .before .before .before .before .args in
+    let colour = c .before .before in
+    let colour-made = colour .before .before .before in
+    let in5 = colour-made .before .before .before in
+    let in4 = in5 .before .before .before .before in
+    let fog = in4 .before .before .before .before in
+    let fog-made = fog .before .before .before in
+    let a = fog-made .before .before .args in
     let old = a .fields .now in
     let w0 : List ℕ = fogWords (a .buffer) in
-    let to116 = c .before .before .before .before .before .before .before .before .before .before .before .before .before .before .before .before .lay .last .0 in
+    let to116 = fog .lay .last .0 in
     let front = take 100 old in
-    let at116 = first w0 old (c .before .before .before .before .before .before .before .before .before .before .before .before .before .before .before .before .before .before .before .fog-words .result) to116 100 116 (c .before .before .before .before .before .before .before .before .before .before .before .before .before .before .before .before .lay .ensures) (c .before .before .before .before .before .before .before .before .before .before .before .before .before .before .before .before .before .before .before .fog-words .ensures) refl in
+    let at116 = first w0 old (fog-made .fog-words .result) to116 100 116 (fog .lay .ensures) (fog-made .fog-words .ensures) refl in
     let w1 : List ℕ = stageWords (a .stages .stage4) in
-    let to136 = c .before .before .before .before .before .before .before .before .before .before .before .before .lay-stage .last .0 in
-    let at136 = more front w0 w1 to116 w1 to136 116 136 at116 (c .before .before .before .before .before .before .before .before .before .before .before .before .lay-stage .ensures) (refl) refl in
+    let to136 = in4 .lay-stage .last .0 in
+    let at136 = more front w0 w1 to116 w1 to136 116 136 at116 (in4 .lay-stage .ensures) refl refl in
     let w2 : List ℕ = stageWords (a .stages .stage5) in
-    let to156 = c .before .before .before .before .before .before .before .before .lay-stage2 .last .0 in
-    let at156 = more front (w0 ++ w1) w2 to136 w2 to156 136 156 at136 (c .before .before .before .before .before .before .before .before .lay-stage2 .ensures) (refl) refl in
+    let to156 = in5 .lay-stage2 .last .0 in
+    let at156 = more front (w0 ++ w1) w2 to136 w2 to156 136 156 at136 (in5 .lay-stage2 .ensures) refl refl in
     let w3 : List ℕ = colourWords (a .buffer .«buffer_colour») in
-    more front ((w0 ++ w1) ++ w2) w3 to156 (c .before .before .before .before .before .colour-words .result) (c .before .before .lay2 .last .0) 156 160 at156 (c .before .before .lay2 .ensures) (c .before .before .before .before .before .colour-words .ensures) refl
+    more front ((w0 ++ w1) ++ w2) w3 to156 (colour-made .colour-words .result) (colour .lay2 .last .0) 156 160 at156 (colour .lay2 .ensures) (colour-made .colour-words .ensures) refl
 
 pub lay-to-fd-spec : {M : Type 1} → statement M
 lay-to-fd-spec =
