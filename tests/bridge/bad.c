@@ -1,0 +1,35 @@
+/* Stand-ins for the library that misbehave in one way each (BAD), 0 in none: the bridge has to tell. */
+#include "pica.h"
+
+#define UNUSED(x) (void)(x)
+#define STATE_UNUSED UNUSED(cells), UNUSED(n), UNUSED(fog), UNUSED(m), UNUSED(light), UNUSED(k)
+
+uint64_t pica_read(uint32_t *cells, size_t n, uint32_t *fog, size_t m, uint32_t *light, size_t k, const uint32_t *list, size_t length) {
+    STATE_UNUSED, UNUSED(list), UNUSED(length);
+    if (BAD == 1) cells[n] = 1;
+    if (BAD == 2) *(cells - 1) = 1;
+    if (BAD == 3) *(uint32_t *)list ^= 1;
+    return 0;
+}
+
+uint64_t pica_write(uint32_t *cells, size_t n, uint32_t *fog, size_t m, uint32_t *light, size_t k, uint32_t id, uint32_t mask, uint32_t value) {
+    STATE_UNUSED, UNUSED(id), UNUSED(mask), UNUSED(value);
+    return 0;
+}
+
+uint64_t pica_pack(const uint32_t *cells, size_t n, const uint32_t *fog, size_t m, const uint32_t *light, size_t k, uint32_t *space, size_t room) {
+    STATE_UNUSED, UNUSED(space), UNUSED(room);
+    return 0;
+}
+
+uint64_t pica_decode(const uint32_t *cells, size_t n, const uint32_t *fog, size_t m, const uint32_t *light, size_t k, uint32_t fields[PICA_FIELDS]) {
+    STATE_UNUSED;
+    if (BAD == 4) fields[PICA_FIELDS] = 1;
+    return 0;
+}
+
+uint64_t pica_fragment(const uint32_t *cells, size_t n, const uint32_t *fog, size_t m, const uint32_t *light, size_t k, const uint32_t given[PICA_GIVEN],
+                       uint32_t stored[PICA_STORED]) {
+    STATE_UNUSED, UNUSED(given), UNUSED(stored);
+    return 0;
+}
