@@ -3,3 +3,4 @@ pub mod Dot
 pub mod Operands
 pub mod Stage
 pub mod Chain
+pub mod Words

@@ -3,7 +3,9 @@ ghost use mathlib.Core.Path.{_≡_};
 ghost use Prim.Native.Nat.{_≤_};
 ghost use lib.IntN.{natAbs, _*ℤ_};
 ghost use Rattle.combiner.specs.Dot.{centred, atLeastZero, clamped, dot3Of};
+ghost use Rattle.combiner.specs.Words.{rgbIn};
 use crate::modes;
+use crate::words;
 
 pub struct Rgb {
     pub red: u8,
@@ -38,8 +40,15 @@ fn clamp(total: i32) -> u8
     modes::to_byte(modes::over_255(at_least_zero(total)))
 }
 
-pub fn dot3(a: Rgb, b: Rgb) -> u8
+fn dot3(a: Rgb, b: Rgb) -> u8
     ensures { λ r. ⌜ r ≡ dot3Of a b ⌝ }
 {
     clamp(term(a.red, b.red) + term(a.green, b.green) + term(a.blue, b.blue))
+}
+
+// Of two words.
+pub fn dot_words(a: u32, b: u32) -> u8
+    ensures { λ r. ⌜ r ≡ dot3Of (rgbIn a) (rgbIn b) ⌝ }
+{
+    dot3(words::rgb_of(a), words::rgb_of(b))
 }

@@ -1,15 +1,20 @@
-// The combiner: six stages, each of which may read what the stages before it gave. The contracts cite specs/Chain.antt.
+// The combiner: six stages, each of which may read what the stages before it gave. The contract of `combine` cites specs/Chain.antt.
 ghost use mathlib.Core.Path.{_≡_};
-ghost use Rattle.combiner.specs.Chain.{resultOf, bufferAfter, seenAfter, combinerOf};
-use settings::records::BufferFog;
+ghost use Prim.Native.Nat.{_<_};
+ghost use lib.ListN.{length, getD};
+ghost use Rattle.settings.specs.Ranges.{inCells};
+ghost use Rattle.settings.specs.Stages.{stageIn, stagesIn, bufferFogIn};
+ghost use Rattle.combiner.specs.Operands.{black, byCode};
+ghost use Rattle.combiner.specs.Chain.{atFirst, bufferAfter, combinerOf};
+ghost use Rattle.combiner.specs.Words.{unpacked, colours, tableAfter, tableAtLast};
 use settings::records::Colour;
-use settings::records::Stage;
-use settings::records::Stages;
 
 mod dot;
+mod mix;
 mod modes;
 mod operands;
 mod stage;
+mod words;
 
 // The colours that are given with a fragment.
 pub struct Given {
@@ -28,60 +33,90 @@ pub struct Seen {
     pub buffer: Colour,
 }
 
-fn result(g: Given, s: Stage, seen: Seen) -> Colour
-    ensures { λ r. ⌜ r ≡ resultOf g s seen ⌝ }
-{
-    let source = s.source;
-    let constant = s.colour;
-    stage::run_stage(s, operands::find_sources(g, source, constant, seen))
-}
-
 // rgb and alpha are the stage's bits of E0.
-fn buffer_after(rgb: u32, alpha: u32, seen: Seen) -> Colour
-    ensures { λ r. ⌜ r ≡ bufferAfter rgb alpha seen ⌝ }
+fn buffer_after(rgb: u32, alpha: u32, previous: u32, buffer: u32) -> u32
+    ensures { λ r. ⌜ unpacked r ≡ bufferAfter rgb alpha (record { previous = unpacked previous; buffer = unpacked buffer }) ⌝ }
 {
-    let old = seen.buffer;
-    let new = seen.previous;
-    Colour {
-        red: operands::choose(rgb == 1, new.red, old.red),
-        green: operands::choose(rgb == 1, new.green, old.green),
-        blue: operands::choose(rgb == 1, new.blue, old.blue),
-        alpha: operands::choose(alpha == 1, new.alpha, old.alpha),
-    }
+    words::join_alpha(
+        words::choose(rgb == 1, previous, buffer),
+        words::choose(alpha == 1, previous, buffer),
+    )
 }
 
-fn step(g: Given, s: Stage, rgb: u32, alpha: u32, seen: Seen) -> Seen
-    ensures { λ r. ⌜ r ≡ seenAfter g s rgb alpha seen ⌝ }
+// The stage whose source register is b: its constant, its result and the next stage's buffer go into the table.
+fn step(cells: &[u32], b: usize, rgb: u32, alpha: u32, table: &mut [u32; 16])
+    requires { ⌜ (length (now cells) ≡ 768) × (b < 760) ⌝ }
+    ensures { λ _. ⌜ colours (now (table .exit)) ≡ tableAfter (stageIn (inCells (now (cells .entry))) b) rgb alpha (colours (now (table .entry))) ⌝ }
 {
-    Seen {
-        previous: result(g, s, seen),
-        buffer: buffer_after(rgb, alpha, seen),
-    }
+    let source = cells[b];
+    let operand = cells[b + 1];
+    let combiner = cells[b + 2];
+    let scale = cells[b + 4];
+    let previous = table[15];
+    let buffer = table[13];
+    table[14] = cells[b + 3];
+    let result = stage::result(table, source, operand, combiner, scale);
+    table[13] = buffer_after(rgb, alpha, previous, buffer);
+    table[15] = result;
 }
 
-// The combiner's result for the colours given with a fragment.
-pub fn combine(stages: Stages, b: BufferFog, g: Given) -> Colour
-    ensures { λ r. ⌜ r ≡ combinerOf stages b g ⌝ }
+fn run_stages(cells: &[u32], table: &mut [u32; 16])
+    requires { ⌜ length (now cells) ≡ 768 ⌝ }
+    ensures { λ _. ⌜ colours (now (table .exit)) ≡ tableAtLast (stagesIn (inCells (now (cells .entry)))) (bufferFogIn (inCells (now (cells .entry)))) (colours (now (table .entry))) ⌝ }
 {
-    let stage0 = stages.stage0;
-    let stage1 = stages.stage1;
-    let stage2 = stages.stage2;
-    let stage3 = stages.stage3;
-    let stage4 = stages.stage4;
-    let stage5 = stages.stage5;
-    let buffer = b.buffer_colour;
-    let u = b.update;
-    let previous = Colour {
-        red: 0,
-        green: 0,
-        blue: 0,
-        alpha: 0,
-    };
-    let seen0 = Seen { previous, buffer };
-    let seen1 = step(g, stage0, 0, 0, seen0);
-    let seen2 = step(g, stage1, u.rgb1, u.alpha1, seen1);
-    let seen3 = step(g, stage2, u.rgb2, u.alpha2, seen2);
-    let seen4 = step(g, stage3, u.rgb3, u.alpha3, seen3);
-    let seen5 = step(g, stage4, u.rgb4, u.alpha4, seen4);
-    result(g, stage5, seen5)
+    let update = cells[0xE0];
+    step(cells, 0xC0, 0, 0, table);
+    step(cells, 0xC8, (update >> 8) % 2, (update >> 12) % 2, table);
+    step(cells, 0xD0, (update >> 9) % 2, (update >> 13) % 2, table);
+    step(cells, 0xD8, (update >> 10) % 2, (update >> 14) % 2, table);
+    step(cells, 0xF0, (update >> 11) % 2, (update >> 15) % 2, table);
+    step(cells, 0xF8, 0, 0, table);
+}
+
+// The table before stage 0.
+fn first_table(g: Given, buffer: u32) -> [u32; 16]
+    ensures { λ r. ⌜ colours r ≡ byCode g black (atFirst (unpacked buffer)) ⌝ }
+{
+    let primary = g.primary;
+    let fragment_primary = g.fragment_primary;
+    let fragment_secondary = g.fragment_secondary;
+    let texture0 = g.texture0;
+    let texture1 = g.texture1;
+    let texture2 = g.texture2;
+    let texture3 = g.texture3;
+    [
+        words::word_of(primary),
+        words::word_of(fragment_primary),
+        words::word_of(fragment_secondary),
+        words::word_of(texture0),
+        words::word_of(texture1),
+        words::word_of(texture2),
+        words::word_of(texture3),
+        0,
+        0,
+        0,
+        0,
+        0,
+        0,
+        buffer,
+        0,
+        0,
+    ]
+}
+
+// What stands in the table as Previous.
+fn previous_in(table: &[u32; 16]) -> Colour
+    ensures { λ r. ⌜ r ≡ getD (colours (now (table .entry))) 15 black ⌝ }
+{
+    words::colour_of(table[15])
+}
+
+// The combiner's result for the colours given with a fragment, by the registers of the cells.
+pub fn combine(cells: &[u32], g: Given) -> Colour
+    requires { ⌜ length (now cells) ≡ 768 ⌝ }
+    ensures { λ r. ⌜ r ≡ combinerOf (stagesIn (inCells (now (cells .entry)))) (bufferFogIn (inCells (now (cells .entry)))) g ⌝ }
+{
+    let mut table = first_table(g, cells[0xFD]);
+    run_stages(cells, &mut table);
+    previous_in(&table)
 }

@@ -2,6 +2,9 @@
 ghost use mathlib.Core.Path.{_≡_};
 ghost use Prim.Native.Nat.{_≤_, _*_, _/_};
 ghost use Rattle.combiner.specs.Modes.{toByte, modulated, added, addedSigned, interpolated, subtracted, multipliedAdded, addedMultiplied, combined, factorOf};
+ghost use Rattle.combiner.specs.Dot.{dot3Of};
+ghost use Rattle.combiner.specs.Words.{rgbIn};
+use crate::dot;
 
 // The one division by 255. The largest number divided is a dot3 of equal corners, 3 times 255 times 255.
 pub fn over_255(n: u32) -> u32
@@ -23,52 +26,52 @@ fn product(a: u8, b: u8) -> u32
     a as u32 * b as u32
 }
 
-fn modulate(a: u8, b: u8) -> u8
+pub fn modulate(a: u8, b: u8) -> u8
     ensures { λ r. ⌜ r ≡ modulated a b ⌝ }
 {
     to_byte(over_255(product(a, b)))
 }
 
-fn add(a: u8, b: u8) -> u8
+pub fn add(a: u8, b: u8) -> u8
     ensures { λ r. ⌜ r ≡ added a b ⌝ }
 {
     to_byte(a as u32 + b as u32)
 }
 
-fn add_signed(a: u8, b: u8) -> u8
+pub fn add_signed(a: u8, b: u8) -> u8
     ensures { λ r. ⌜ r ≡ addedSigned a b ⌝ }
 {
     let sum = a as u32 + b as u32;
     if sum < 128 { 0 } else { to_byte(sum - 128) }
 }
 
-fn interpolate(a: u8, b: u8, c: u8) -> u8
+pub fn interpolate(a: u8, b: u8, c: u8) -> u8
     ensures { λ r. ⌜ r ≡ interpolated a b c ⌝ }
 {
     to_byte(over_255(product(a, c) + product(b, 255 - c)))
 }
 
-fn subtract(a: u8, b: u8) -> u8
+pub fn subtract(a: u8, b: u8) -> u8
     ensures { λ r. ⌜ r ≡ subtracted a b ⌝ }
 {
     if a < b { 0 } else { a - b }
 }
 
-fn multiply_add(a: u8, b: u8, c: u8) -> u8
+pub fn multiply_add(a: u8, b: u8, c: u8) -> u8
     ensures { λ r. ⌜ r ≡ multipliedAdded a b c ⌝ }
 {
     to_byte(over_255(product(a, b) + 255 * c as u32))
 }
 
-fn add_multiply(a: u8, b: u8, c: u8) -> u8
+pub fn add_multiply(a: u8, b: u8, c: u8) -> u8
     ensures { λ r. ⌜ r ≡ addedMultiplied a b c ⌝ }
 {
     modulate(add(a, b), c)
 }
 
-// A channel of a stage's result, before its scale; dot is the stage's dot3.
-pub fn combine(mode: u32, a: u8, b: u8, c: u8, dot: u8) -> u8
-    ensures { λ r. ⌜ r ≡ combined mode a b c dot ⌝ }
+// One channel of a stage's result, before its scale; x and y are the stage's first two RGB operands, whose dot3 is worked out where the mode asks for it.
+pub fn combine(mode: u32, a: u8, b: u8, c: u8, x: u32, y: u32) -> u8
+    ensures { λ r. ⌜ r ≡ combined mode a b c (dot3Of (rgbIn x) (rgbIn y)) ⌝ }
 {
     match mode {
         0 => a,
@@ -77,8 +80,8 @@ pub fn combine(mode: u32, a: u8, b: u8, c: u8, dot: u8) -> u8
         3 => add_signed(a, b),
         4 => interpolate(a, b, c),
         5 => subtract(a, b),
-        6 => dot,
-        7 => dot,
+        6 => dot::dot_words(x, y),
+        7 => dot::dot_words(x, y),
         8 => multiply_add(a, b, c),
         _ => add_multiply(a, b, c),
     }

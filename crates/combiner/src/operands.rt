@@ -1,12 +1,10 @@
-// A stage's sources, and the operands taken from them. The contracts cite specs/Operands.antt.
+// The operands taken from a stage's sources, which are words. The contracts cite specs/Operands.antt and specs/Words.antt.
 ghost use mathlib.Core.Path.{_≡_};
 ghost use Rattle.numbers.specs.Pick.{pick};
-ghost use Rattle.combiner.specs.Operands.{byCode, sourcesOf, oneMinus, rgbOperand, alphaPart, alphaOperand};
-use crate::Given;
-use crate::Seen;
-use crate::dot::Rgb;
+ghost use Rattle.combiner.specs.Operands.{oneMinus, rgbOperand, alphaPart, alphaOperand};
+ghost use Rattle.combiner.specs.Words.{unpacked, rgbIn, rgbParts, rgbOneMinus};
+use crate::words;
 use settings::records::Colour;
-use settings::records::Source;
 
 // The colours that a stage's source codes name.
 pub struct Sources {
@@ -18,94 +16,74 @@ pub struct Sources {
     pub alpha2: Colour,
 }
 
-// One table by code for all six; codes 7 to Ch have no name.
-pub fn find_sources(g: Given, s: Source, constant: Colour, seen: Seen) -> Sources
-    ensures { λ r. ⌜ r ≡ sourcesOf (byCode g constant seen) s ⌝ }
+fn byte_at_0(x: u32) -> u8
+    ensures { λ r. ⌜ r ≡ unpacked x .red ⌝ }
 {
-    let primary = g.primary;
-    let fragment_primary = g.fragment_primary;
-    let fragment_secondary = g.fragment_secondary;
-    let texture0 = g.texture0;
-    let texture1 = g.texture1;
-    let texture2 = g.texture2;
-    let texture3 = g.texture3;
-    let none = Colour {
-        red: 0,
-        green: 0,
-        blue: 0,
-        alpha: 0,
-    };
-    let buffer = seen.buffer;
-    let previous = seen.previous;
-    let by_code = [
-        primary,
-        fragment_primary,
-        fragment_secondary,
-        texture0,
-        texture1,
-        texture2,
-        texture3,
-        none,
-        none,
-        none,
-        none,
-        none,
-        none,
-        buffer,
-        constant,
-        previous,
-    ];
-    let rgb0 = by_code[(s.rgb0 % 16) as usize];
-    let rgb1 = by_code[(s.rgb1 % 16) as usize];
-    let rgb2 = by_code[(s.rgb2 % 16) as usize];
-    let alpha0 = by_code[(s.alpha0 % 16) as usize];
-    let alpha1 = by_code[(s.alpha1 % 16) as usize];
-    let alpha2 = by_code[(s.alpha2 % 16) as usize];
-    Sources {
-        rgb0,
-        rgb1,
-        rgb2,
-        alpha0,
-        alpha1,
-        alpha2,
+    (x % 256) as u8
+}
+
+fn byte_at_8(x: u32) -> u8
+    ensures { λ r. ⌜ r ≡ unpacked x .green ⌝ }
+{
+    ((x >> 8) % 256) as u8
+}
+
+fn byte_at_16(x: u32) -> u8
+    ensures { λ r. ⌜ r ≡ unpacked x .blue ⌝ }
+{
+    ((x >> 16) % 256) as u8
+}
+
+fn byte_at_24(x: u32) -> u8
+    ensures { λ r. ⌜ r ≡ unpacked x .alpha ⌝ }
+{
+    ((x >> 24) % 256) as u8
+}
+
+// By half the operand's code.
+fn rgb_part(half: u32, x: u32) -> u32
+    ensures { λ r. ⌜ rgbIn r ≡ rgbParts half (unpacked x) ⌝ }
+{
+    match half {
+        0 => x,
+        1 => words::grey(byte_at_24(x)),
+        2 => words::grey(byte_at_0(x)),
+        3 => 0,
+        4 => words::grey(byte_at_8(x)),
+        5 => 0,
+        6 => words::grey(byte_at_16(x)),
+        7 => 0,
+        _ => 0,
     }
 }
 
-// a where the test holds, else b.
-pub fn choose(test: bool, a: u8, b: u8) -> u8
-    ensures { λ r. ⌜ r ≡ pick test a b ⌝ }
+fn rgb_one_minus(code: u32, x: u32) -> u32
+    ensures { λ r. ⌜ rgbIn r ≡ rgbOneMinus code (rgbIn x) ⌝ }
 {
-    if test { a } else { b }
+    if code % 2 == 1 { 0xFFFFFFFF - x } else { x }
+}
+
+pub fn rgb_operand(code: u32, x: u32) -> u32
+    ensures { λ r. ⌜ rgbIn r ≡ rgbOperand code (unpacked x) ⌝ }
+{
+    rgb_one_minus(code, rgb_part(code / 2 % 8, x))
+}
+
+// By a shift: alpha is at bit 24 and codes 2, 4, 6 are the bytes from bit 0 up.
+fn alpha_part(code: u32, x: u32) -> u8
+    ensures { λ r. ⌜ r ≡ alphaPart code (unpacked x) ⌝ }
+{
+    ((x >> ((code / 2 % 4 * 8 + 24) % 32)) % 256) as u8
 }
 
 fn one_minus(code: u32, x: u8) -> u8
     ensures { λ r. ⌜ r ≡ oneMinus code x ⌝ }
 {
-    choose(code % 2 == 1, 255 - x, x)
+    if code % 2 == 1 { 255 - x } else { x }
 }
 
-pub fn rgb_operand(code: u32, s: Colour) -> Rgb
-    ensures { λ r. ⌜ r ≡ rgbOperand code s ⌝ }
+pub fn alpha_operand(code: u32, x: u32) -> u8
+    ensures { λ r. ⌜ r ≡ alphaOperand code (unpacked x) ⌝ }
 {
-    let half = code / 2 % 8;
-    let parts = [0, s.alpha, s.red, 0, s.green, 0, s.blue, 0];
-    let part = parts[half as usize];
-    Rgb {
-        red: one_minus(code, choose(half == 0, s.red, part)),
-        green: one_minus(code, choose(half == 0, s.green, part)),
-        blue: one_minus(code, choose(half == 0, s.blue, part)),
-    }
-}
-
-fn alpha_part(code: u32, s: Colour) -> u8
-    ensures { λ r. ⌜ r ≡ alphaPart code s ⌝ }
-{
-    let parts = [s.alpha, s.red, s.green, s.blue];
-    parts[(code / 2 % 4) as usize]
-}
-
-pub fn alpha_operand(code: u32, s: Colour) -> u8
-    ensures { λ r. ⌜ r ≡ alphaOperand code s ⌝ }
-{
-    one_minus(code, alpha_part(code, s))
+    one_minus(code, alpha_part(code, x))
 }

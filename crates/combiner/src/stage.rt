@@ -1,58 +1,91 @@
-// One stage of the combiner. The contracts cite specs/Stage.antt.
+// One stage of the combiner, on a table of the sixteen colours by code, as words. The contracts cite specs/Stage.antt and specs/Words.antt.
 ghost use mathlib.Core.Path.{_≡_};
-ghost use Rattle.combiner.specs.Stage.{rgbMixed, alphaMixed, stageOf};
-use crate::dot;
-use crate::dot::Rgb;
+ghost use lib.Dec.{eqb};
+ghost use Rattle.numbers.specs.Pick.{pick};
+ghost use Rattle.settings.specs.Ranges.{bits};
+ghost use Rattle.settings.specs.Stages.{sourceIn, operandIn, combinerIn, scaleIn};
+ghost use Rattle.combiner.specs.Dot.{dot3Of};
+ghost use Rattle.combiner.specs.Modes.{scaled};
+ghost use Rattle.combiner.specs.Operands.{black, sourcesOf};
+ghost use Rattle.combiner.specs.Stage.{joined};
+ghost use Rattle.combiner.specs.Words.{unpacked, rgbIn, rgbScaled, ownAlpha, stageFrom, idle, colours, fromTable};
+use crate::mix;
 use crate::modes;
 use crate::operands;
-use crate::operands::Sources;
-use settings::records::Colour;
-use settings::records::Stage;
 
-fn mix_rgb(mode: u32, scale: u32, a: Rgb, b: Rgb, c: Rgb, dot: u8) -> Rgb
-    ensures { λ r. ⌜ r ≡ rgbMixed mode scale a b c dot ⌝ }
+// The alpha mode's result. x and y are the stage's first two RGB operands.
+fn own_alpha(table: &[u32; 16], source: u32, operand: u32, mode: u32, x: u32, y: u32) -> u8
+    ensures { λ r. ⌜ r ≡ ownAlpha mode (operandIn (bits operand)) (sourcesOf (colours (now (table .entry))) (sourceIn (bits source))) (dot3Of (rgbIn x) (rgbIn y)) ⌝ }
 {
-    let red = modes::combine(mode, a.red, b.red, c.red, dot);
-    let green = modes::combine(mode, a.green, b.green, c.green, dot);
-    let blue = modes::combine(mode, a.blue, b.blue, c.blue, dot);
-    let by = modes::factor(scale);
-    Rgb {
-        red: modes::times(red, by),
-        green: modes::times(green, by),
-        blue: modes::times(blue, by),
+    let alpha0 = table[((source >> 16) % 16) as usize];
+    let alpha1 = table[((source >> 20) % 16) as usize];
+    let alpha2 = table[((source >> 24) % 16) as usize];
+    let a = operands::alpha_operand((operand >> 12) % 8, alpha0);
+    let b = operands::alpha_operand((operand >> 16) % 8, alpha1);
+    let c = operands::alpha_operand((operand >> 20) % 8, alpha2);
+    modes::combine(mode, a, b, c, x, y)
+}
+
+// Dot3 RGBA puts its result, which is then mixed's red, in alpha too, and the alpha mode isn't read.
+fn mix_alpha(
+    table: &[u32; 16],
+    source: u32,
+    operand: u32,
+    combiner: u32,
+    x: u32,
+    y: u32,
+    mixed: u32,
+) -> u8
+    ensures { λ r. ⌜ r ≡ pick (eqb (combinerIn (bits combiner) .rgb) 7) (rgbIn mixed .red) (ownAlpha (combinerIn (bits combiner) .alpha) (operandIn (bits operand)) (sourcesOf (colours (now (table .entry))) (sourceIn (bits source))) (dot3Of (rgbIn x) (rgbIn y))) ⌝ }
+{
+    if combiner % 16 == 7 {
+        (mixed % 256) as u8
+    } else {
+        own_alpha(table, source, operand, (combiner >> 16) % 16, x, y)
     }
 }
 
-// Dot3 RGBA puts its result in alpha too, and the alpha mode isn't read.
-fn mix_alpha(s: Stage, from: Sources, dot: u8) -> u8
-    ensures { λ r. ⌜ r ≡ alphaMixed s from dot ⌝ }
+// The scales, and RGB and alpha in one word.
+fn finish(scale: u32, mixed: u32, alpha: u8) -> u32
+    ensures { λ r. ⌜ unpacked r ≡ joined (rgbScaled (scaleIn (bits scale) .rgb) (rgbIn mixed)) (scaled (scaleIn (bits scale) .alpha) alpha) ⌝ }
 {
-    let alpha0 = from.alpha0;
-    let alpha1 = from.alpha1;
-    let alpha2 = from.alpha2;
-    let a = operands::alpha_operand(s.operand.alpha0, alpha0);
-    let b = operands::alpha_operand(s.operand.alpha1, alpha1);
-    let c = operands::alpha_operand(s.operand.alpha2, alpha2);
-    let own = modes::combine(s.combiner.alpha, a, b, c, dot);
-    let alpha = operands::choose(s.combiner.rgb == 7, dot, own);
-    modes::times(alpha, modes::factor(s.scale.alpha))
+    let low = mix::scale_rgb(scale % 4, mixed);
+    let high = modes::times(alpha, modes::factor((scale >> 16) % 4));
+    low + high as u32 * 0x1000000
 }
 
-pub fn run_stage(s: Stage, from: Sources) -> Colour
-    ensures { λ r. ⌜ r ≡ stageOf s from ⌝ }
+fn run_stage(table: &[u32; 16], source: u32, operand: u32, combiner: u32, scale: u32) -> u32
+    ensures { λ r. ⌜ unpacked r ≡ fromTable (stageFrom source operand combiner black scale) (colours (now (table .entry))) ⌝ }
 {
-    let rgb0 = from.rgb0;
-    let rgb1 = from.rgb1;
-    let rgb2 = from.rgb2;
-    let a = operands::rgb_operand(s.operand.rgb0, rgb0);
-    let b = operands::rgb_operand(s.operand.rgb1, rgb1);
-    let c = operands::rgb_operand(s.operand.rgb2, rgb2);
-    let dot = dot::dot3(a, b);
-    let rgb = mix_rgb(s.combiner.rgb, s.scale.rgb, a, b, c, dot);
-    Colour {
-        red: rgb.red,
-        green: rgb.green,
-        blue: rgb.blue,
-        alpha: mix_alpha(s, from, dot),
+    let rgb0 = table[(source % 16) as usize];
+    let rgb1 = table[((source >> 4) % 16) as usize];
+    let rgb2 = table[((source >> 8) % 16) as usize];
+    let x = operands::rgb_operand(operand % 16, rgb0);
+    let y = operands::rgb_operand((operand >> 4) % 16, rgb1);
+    let z = operands::rgb_operand((operand >> 8) % 16, rgb2);
+    let mixed = mix::mix_rgb(combiner % 16, x, y, z);
+    let alpha = mix_alpha(table, source, operand, combiner, x, y, mixed);
+    finish(scale, mixed, alpha)
+}
+
+// Previous is handed on as it is.
+fn is_idle(source: u32, operand: u32, combiner: u32, scale: u32) -> bool
+    ensures { λ r. ⌜ r ≡ idle (stageFrom source operand combiner black scale) ⌝ }
+{
+    (source % 16 == 15)
+        & ((source >> 16) % 16 == 15)
+        & ((operand % 16 == 0) & ((operand >> 12) % 8 == 0))
+        & ((combiner % 16 == 0) & ((combiner >> 16) % 16 == 0))
+        & ((scale % 4 == 0) & ((scale >> 16) % 4 == 0))
+}
+
+// A stage's result; its constant stands in the table.
+pub fn result(table: &[u32; 16], source: u32, operand: u32, combiner: u32, scale: u32) -> u32
+    ensures { λ r. ⌜ unpacked r ≡ fromTable (stageFrom source operand combiner black scale) (colours (now (table .entry))) ⌝ }
+{
+    if is_idle(source, operand, combiner, scale) {
+        table[15]
+    } else {
+        run_stage(table, source, operand, combiner, scale)
     }
 }

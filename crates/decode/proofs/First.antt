@@ -1,9 +1,10 @@
 -- The first id of lists of checks, one after the other. Assumes nothing.
-use mathlib.Core.Path.{_≡_, refl}
+use mathlib.Core.Path.{_≡_, refl, sym}
+use mathlib.Core.Bool.{Bool, true, false, _||_, false≢true}
 use mathlib.Core.List.{List, [], _∷_, _++_}
 use Prim.Native.Nat.{ℕ}
 use Rattle.numbers.specs.Pick.{pick}
-use Rattle.decode.specs.Codes.{Check, updateLacks, stageChecks, frameChecks, checks, firstOf, lowest}
+use Rattle.decode.specs.Codes.{Check, updateLacks, stageChecks, frameChecks, checks, firstOf, lowest, anyOf, anyLacks}
 use Rattle.settings.specs.declared.records.Settings.{Settings}
 
 pub first-append : (xs ys : List Check) (rest : ℕ) → firstOf (xs ++ ys) rest ≡ firstOf xs (firstOf ys rest)
@@ -27,3 +28,37 @@ pub lowest-checks : (s : Settings)
     (firstOf (stageChecks 0xF8 (s .stages .stage5)) (firstOf (frameChecks (s .framebuffer)) 0)))))))
 unfolding checks
 lowest-checks s = simp (first-append, first-one)
+
+-- THE QUICK TEST
+
+any-append : (xs ys : List Check) (rest : Bool) → anyOf (xs ++ ys) rest ≡ anyOf xs (anyOf ys rest)
+unfolding anyOf
+any-append [] ys rest = refl
+any-append (c ∷ cs) ys rest = rw (any-append cs ys rest)
+
+any-one : (c : Check) (rest : Bool) → anyOf (c ∷ []) rest ≡ (c .lacks || rest)
+unfolding anyOf
+any-one c rest = refl
+
+-- group by group
+pub any-checks : (s : Settings)
+    → anyLacks (checks s)
+    ≡ anyOf (stageChecks 0xC0 (s .stages .stage0))
+    (anyOf (stageChecks 0xC8 (s .stages .stage1))
+    (anyOf (stageChecks 0xD0 (s .stages .stage2))
+    (anyOf (stageChecks 0xD8 (s .stages .stage3))
+    (updateLacks (s .«buffer_fog» .update) ||
+    (anyOf (stageChecks 0xF0 (s .stages .stage4))
+    (anyOf (stageChecks 0xF8 (s .stages .stage5)) (anyOf (frameChecks (s .framebuffer)) false)))))))
+unfolding checks
+any-checks s = simp (any-append, any-one)
+
+-- where none lacks a name there is no first
+none-or : (a b : Bool) → (a || b) ≡ false → (a ≡ false) × (b ≡ false)
+none-or true b e = absurd (false≢true (sym e))
+none-or false b e = (refl, e)
+
+pub none-first : (cs : List Check) (rest : ℕ) → anyLacks cs ≡ false → firstOf cs rest ≡ rest
+unfolding firstOf anyOf
+none-first [] rest e = refl
+none-first (c ∷ cs) rest e = let u = none-or (c .lacks) (anyOf cs false) e in rw (u .0) (none-first cs rest (u .1))

@@ -139,3 +139,13 @@ firstOf (c ∷ cs) rest = let later = firstOf cs rest in pick (c .lacks) (c .id)
 -- 0 for none
 abbrev pub lowest : List Check → ℕ
 lowest cs = firstOf cs 0
+
+-- NOT OF THE DOCUMENT: the quick test
+
+-- some check of the list lacks a name, or the rest does
+unfoldable pub anyOf : List Check → Bool → Bool
+anyOf [] rest = rest
+anyOf (c ∷ cs) rest = let later = anyOf cs rest in c .lacks || later
+
+abbrev pub anyLacks : List Check → Bool
+anyLacks cs = anyOf cs false

@@ -10,6 +10,8 @@ use Rattle.settings.specs.Settings.{settingsIn}
 use Rattle.decode.specs.Codes.{checks, lacksAt, lowest}
 use Rattle.settings.specs.Flat.{flat}
 use Rattle.settings.specs.declared.records.Settings.{Settings}
+use Rattle.decode.specs.declared.Checked.{Checked}
+use Rattle.decode.specs.declared.Checked.the-variants as checked
 use Rattle.decode.specs.declared.Decoded.{Decoded}
 use Rattle.decode.specs.declared.Decoded.the-variants.{Held, Refused}
 
@@ -40,3 +42,10 @@ refusal n p = Refused (record { number = n; place = p })
 unfoldable pub decodedOf : State → Decoded
 decodedOf s =
     pick (sized s) (pick (eqb (namelessId s) 0) (Held (settingsOf s)) (refusal 13 (namelessId s))) (refusal 6 0)
+
+-- what `check` answers: the same refusals, and nothing decoded
+abbrev pub unnamed : ℕ → ℕ → Checked
+unnamed n p = checked.Refused (record { number = n; place = p })
+
+unfoldable pub checkedOf : State → Checked
+checkedOf s = pick (sized s) (pick (eqb (namelessId s) 0) checked.Named (unnamed 13 (namelessId s))) (unnamed 6 0)

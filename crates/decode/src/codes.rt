@@ -1,6 +1,8 @@
 // Codes without a name: a test for each kind of register, ids ascending, and then the lowest id that holds one. The contracts cite specs/Codes.antt.
-// All tests are made, and none branches: nearly every state passes them all.
+// All tests are joined in one word without a branch, and the lowest id is looked for only where that word isn't 0: nearly every state passes them all.
 ghost use mathlib.Core.Path.{_≡_};
+ghost use mathlib.Core.Bool.{not};
+ghost use lib.Dec.{eqb};
 ghost use Prim.Native.Nat.{_<_};
 ghost use lib.ListN.{length};
 ghost use Rattle.numbers.specs.Pick.{pick};
@@ -8,34 +10,32 @@ ghost use Rattle.settings.specs.Ranges.{bits, inCells};
 ghost use Rattle.settings.specs.Stages.{sourceIn, operandIn, combinerIn, scaleIn, stageIn, updateIn};
 ghost use Rattle.settings.specs.Framebuffer.{operationIn, functionIn, formatIn, framebufferIn};
 ghost use Rattle.settings.specs.Settings.{settingsIn};
-ghost use Rattle.decode.specs.Codes.{sourceLacks, operandLacks, combinerLacks, scaleLacks, updateLacks, operationLacks, functionLacks, formatLacks, noDepthFormat, stageChecks, frameChecks, checks, firstOf, lowest};
+ghost use Rattle.decode.specs.Codes.{sourceLacks, operandLacks, combinerLacks, scaleLacks, updateLacks, operationLacks, functionLacks, formatLacks, noDepthFormat, stageChecks, frameChecks, checks, firstOf, lowest, anyOf, anyLacks};
+
+// All six codes at once: bit 0 of a code's four bits is left where the code is 7..Ch, so that the word is 0 where all have a name. With a, b, c, d a code's bits from bit 0 up, that is where d differs from c AND (a OR b), and d OR (a AND b).
+fn source_bits(x: u32) -> u32
+    ensures { λ r. ⌜ not (eqb r 0) ≡ sourceLacks (sourceIn (bits x)) ⌝ }
+{
+    (((x >> 3) ^ ((x >> 2) & ((x >> 1) | x))) & ((x >> 3) | ((x >> 1) & x))) & 0x1110111
+}
 
 fn source_lacks(x: u32) -> bool
     ensures { λ r. ⌜ r ≡ sourceLacks (sourceIn (bits x)) ⌝ }
 {
-    let a = x % 16;
-    let b = (x >> 4) % 16;
-    let c = (x >> 8) % 16;
-    let d = (x >> 16) % 16;
-    let e = (x >> 20) % 16;
-    let f = (x >> 24) % 16;
-    (7 <= a) & (a <= 0xC)
-        | (7 <= b) & (b <= 0xC)
-        | (7 <= c) & (c <= 0xC)
-        | (7 <= d) & (d <= 0xC)
-        | (7 <= e) & (e <= 0xC)
-        | (7 <= f) & (f <= 0xC)
+    source_bits(x) != 0
+}
+
+// All three codes at once: b AND (c OR d) is left for 6, 7, Ah, Bh, Eh, Fh.
+fn operand_bits(x: u32) -> u32
+    ensures { λ r. ⌜ not (eqb r 0) ≡ operandLacks (operandIn (bits x)) ⌝ }
+{
+    ((x >> 1) & ((x >> 2) | (x >> 3))) & 0x111
 }
 
 fn operand_lacks(x: u32) -> bool
     ensures { λ r. ⌜ r ≡ operandLacks (operandIn (bits x)) ⌝ }
 {
-    let a = x % 16;
-    let b = (x >> 4) % 16;
-    let c = (x >> 8) % 16;
-    !((a <= 5) | (a == 8) | (a == 9) | (a == 0xC) | (a == 0xD))
-        | !((b <= 5) | (b == 8) | (b == 9) | (b == 0xC) | (b == 0xD))
-        | !((c <= 5) | (c == 8) | (c == 9) | (c == 0xC) | (c == 0xD))
+    operand_bits(x) != 0
 }
 
 // An alpha mode 6 or 7 has a name where the RGB mode is 7.
@@ -47,10 +47,17 @@ fn combiner_lacks(x: u32) -> bool
     (9 < rgb) | ((9 < alpha) | (6 <= alpha) & (alpha <= 7) & (rgb != 7))
 }
 
+// Both codes at once: a AND b is left for 3.
+fn scale_bits(x: u32) -> u32
+    ensures { λ r. ⌜ not (eqb r 0) ≡ scaleLacks (scaleIn (bits x)) ⌝ }
+{
+    (x & (x >> 1)) & 0x10001
+}
+
 fn scale_lacks(x: u32) -> bool
     ensures { λ r. ⌜ r ≡ scaleLacks (scaleIn (bits x)) ⌝ }
 {
-    (x % 4 == 3) | ((x >> 16) % 4 == 3)
+    scale_bits(x) != 0
 }
 
 fn update_lacks(x: u32) -> bool
@@ -127,7 +134,7 @@ fn frame_first(cells: &[u32]) -> usize
 }
 
 // The lowest id of all, from the highest register down; 0 for none.
-pub fn nameless_id(cells: &[u32]) -> usize
+fn lowest_id(cells: &[u32]) -> usize
     requires { ⌜ length (now cells) ≡ 768 ⌝ }
     ensures { λ r. ⌜ r ≡ lowest (checks (settingsIn (inCells (now (cells .entry))))) ⌝ }
 {
@@ -140,4 +147,65 @@ pub fn nameless_id(cells: &[u32]) -> usize
     let stage2 = stage_first(cells, 0xD0, stage3);
     let stage1 = stage_first(cells, 0xC8, stage2);
     stage_first(cells, 0xC0, stage1)
+}
+
+// 0 where the test fails.
+fn bits_of(lacks: bool) -> u32
+    ensures { λ r. ⌜ not (eqb r 0) ≡ lacks ⌝ }
+{
+    if lacks { 1 } else { 0 }
+}
+
+// Not 0 where the stage whose source register is b holds a code without a name, or the rest isn't 0.
+fn stage_bits(cells: &[u32], b: usize, rest: u32) -> u32
+    requires { ⌜ (length (now cells) ≡ 768) × (b < 760) ⌝ }
+    ensures { λ r. ⌜ not (eqb r 0) ≡ anyOf (stageChecks b (stageIn (inCells (now (cells .entry))) b)) (not (eqb rest 0)) ⌝ }
+{
+    let source = cells[b];
+    let operand = cells[b + 1];
+    let combiner = cells[b + 2];
+    let scale = cells[b + 4];
+    source_bits(source)
+        | (operand_bits(operand) | (bits_of(combiner_lacks(combiner)) | (scale_bits(scale) | rest)))
+}
+
+// 100, 101, 116 or 117 does, or the rest.
+fn frame_lacks(cells: &[u32], rest: bool) -> bool
+    requires { ⌜ length (now cells) ≡ 768 ⌝ }
+    ensures { λ r. ⌜ r ≡ anyOf (frameChecks (framebufferIn (inCells (now (cells .entry))))) rest ⌝ }
+{
+    let operation = cells[0x100];
+    let function = cells[0x101];
+    let depth_format = cells[0x116];
+    let format = cells[0x117];
+    operation_lacks(operation)
+        | (function_lacks(function)
+            | (depth_format_lacks(depth_format) | (format_lacks(format) | rest)))
+}
+
+fn any_lacks(cells: &[u32]) -> bool
+    requires { ⌜ length (now cells) ≡ 768 ⌝ }
+    ensures { λ r. ⌜ r ≡ anyLacks (checks (settingsIn (inCells (now (cells .entry))))) ⌝ }
+{
+    let update = cells[0xE0];
+    let frame = bits_of(frame_lacks(cells, false));
+    let stage5 = stage_bits(cells, 0xF8, frame);
+    let stage4 = stage_bits(cells, 0xF0, stage5);
+    let fog = bits_of(update_lacks(update)) | stage4;
+    let stage3 = stage_bits(cells, 0xD8, fog);
+    let stage2 = stage_bits(cells, 0xD0, stage3);
+    let stage1 = stage_bits(cells, 0xC8, stage2);
+    stage_bits(cells, 0xC0, stage1) != 0
+}
+
+// The lowest id that holds a code without a name; 0 for none.
+pub fn nameless_id(cells: &[u32]) -> usize
+    requires { ⌜ length (now cells) ≡ 768 ⌝ }
+    ensures { λ r. ⌜ r ≡ lowest (checks (settingsIn (inCells (now (cells .entry))))) ⌝ }
+{
+    if any_lacks(cells) {
+        lowest_id(cells)
+    } else {
+        0
+    }
 }

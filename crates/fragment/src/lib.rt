@@ -1,12 +1,13 @@
 // One fragment: the combiner's result, the tests, and what is stored. The contracts cite specs/Drawn.antt.
 ghost use mathlib.Core.Path.{_≡_};
+ghost use lib.ListN.{length};
 ghost use Rattle.registers.specs.State.{st};
+ghost use Rattle.settings.specs.Ranges.{bits, inCells};
+ghost use Rattle.settings.specs.Framebuffer.{operationIn, formatIn};
+ghost use Rattle.settings.specs.Settings.{settingsIn};
 ghost use Rattle.fragment.specs.Drawn.{outcomeOf, operationUnbuilt, formatUnbuilt, unbuiltId, largest, drawnWith, drawnOf};
 use combiner::Given;
-use decode::Decoded;
-use settings::records::ColourFormat;
-use settings::records::ColourOperation;
-use settings::records::Settings;
+use decode::Checked;
 use stores::Stored;
 use stores::Verdict;
 use words::Refusal;
@@ -21,45 +22,47 @@ pub enum Drawn {
     Refused(Refusal),
 }
 
-fn find_outcome(s: Settings, g: Given, incoming: u32, stored: Stored) -> Outcome
-    ensures { λ r. ⌜ r ≡ outcomeOf s g incoming stored ⌝ }
+fn find_outcome(cells: &[u32], g: Given, incoming: u32, stored: Stored) -> Outcome
+    requires { ⌜ length (now cells) ≡ 768 ⌝ }
+    ensures { λ r. ⌜ r ≡ outcomeOf (settingsIn (inCells (now (cells .entry)))) g incoming stored ⌝ }
 {
-    let stages = s.stages;
-    let buffer = s.buffer_fog;
-    let f = s.framebuffer;
     let old = stored.colour;
-    let result = combiner::combine(stages, buffer, g);
-    let j = stores::judge(f, result.alpha, incoming, stored.stencil, stored.depth);
+    let result = combiner::combine(cells, g);
+    let j = stores::judge(cells, result.alpha, incoming, stored.stencil, stored.depth);
     let verdict = j.verdict;
     Outcome {
         verdict,
         stored: Stored {
-            colour: stores::colour::colour_after(f, verdict, result, old),
+            colour: stores::colour::colour_after(cells, verdict, result, old),
             stencil: j.stencil,
             depth: j.depth,
         },
     }
 }
 
-fn operation_unbuilt(o: ColourOperation) -> bool
-    ensures { λ r. ⌜ r ≡ operationUnbuilt o ⌝ }
+// x is the word of 100.
+fn operation_unbuilt(x: u32) -> bool
+    ensures { λ r. ⌜ r ≡ operationUnbuilt (operationIn (bits x)) ⌝ }
 {
-    (o.mode != 0) | (o.blend == 1) | (o.second_lines == 1) | (o.nothing == 1)
+    (x % 4 != 0) | ((x >> 8) % 2 == 1) | ((x >> 24) % 2 == 1) | ((x >> 25) % 2 == 1)
 }
 
-fn format_unbuilt(f: ColourFormat) -> bool
-    ensures { λ r. ⌜ r ≡ formatUnbuilt f ⌝ }
+// x is the word of 117.
+fn format_unbuilt(x: u32) -> bool
+    ensures { λ r. ⌜ r ≡ formatUnbuilt (formatIn (bits x)) ⌝ }
 {
-    !((f.size == 2) & (f.format == 0))
+    !((x % 4 == 2) & ((x >> 16) % 8 == 0))
 }
 
 // The lowest id that asks for what is not built, 0 for none.
-fn unbuilt_id(s: Settings) -> usize
-    ensures { λ r. ⌜ r ≡ unbuiltId s ⌝ }
+fn unbuilt_id(cells: &[u32]) -> usize
+    requires { ⌜ length (now cells) ≡ 768 ⌝ }
+    ensures { λ r. ⌜ r ≡ unbuiltId (settingsIn (inCells (now (cells .entry)))) ⌝ }
 {
-    let operation = s.framebuffer.blending.operation;
-    let format = s.framebuffer.buffers.colour_format;
-    if s.buffer_fog.update.fog_mode != 0 {
+    let update = cells[0xE0];
+    let operation = cells[0x100];
+    let format = cells[0x117];
+    if update % 8 != 0 {
         return 0xE0;
     }
     if operation_unbuilt(operation) {
@@ -68,23 +71,25 @@ fn unbuilt_id(s: Settings) -> usize
     if format_unbuilt(format) { 0x117 } else { 0 }
 }
 
+// format is the word of 116.
 fn largest_depth(format: u32) -> u32
-    ensures { λ r. ⌜ r ≡ largest format ⌝ }
+    ensures { λ r. ⌜ r ≡ largest (bits format 0 1) ⌝ }
 {
-    if format == 0 { 65535 } else { 16777215 }
+    if format % 4 == 0 { 65535 } else { 16777215 }
 }
 
-fn draw_with(s: Settings, g: Given, incoming: u32, stored: Stored) -> Drawn
-    ensures { λ r. ⌜ r ≡ drawnWith s g incoming stored ⌝ }
+fn draw_with(cells: &[u32], g: Given, incoming: u32, stored: Stored) -> Drawn
+    requires { ⌜ length (now cells) ≡ 768 ⌝ }
+    ensures { λ r. ⌜ r ≡ drawnWith (settingsIn (inCells (now (cells .entry)))) g incoming stored ⌝ }
 {
-    let id = unbuilt_id(s);
+    let id = unbuilt_id(cells);
     if id != 0 {
         return Drawn::Refused(Refusal {
             number: words::NOT_BUILT,
             place: id,
         });
     }
-    let top = largest_depth(s.framebuffer.buffers.depth_format);
+    let top = largest_depth(cells[0x116]);
     if top < incoming {
         return Drawn::Refused(Refusal {
             number: words::DEPTH_ABOVE_LARGEST,
@@ -97,7 +102,7 @@ fn draw_with(s: Settings, g: Given, incoming: u32, stored: Stored) -> Drawn
             place: 1,
         });
     }
-    Drawn::Done(find_outcome(s, g, incoming, stored))
+    Drawn::Done(find_outcome(cells, g, incoming, stored))
 }
 
 // What becomes of a fragment: the verdict, and the colour, stencil and depth that are then stored; or refused with 6 at 0, 13 or 14 at the lowest id, or 12 at 0 for the incoming depth, 1 for the stored.
@@ -111,8 +116,8 @@ pub fn draw(
 ) -> Drawn
     ensures { λ r. ⌜ r ≡ drawnOf (st (now (cells .entry)) (now (fog .entry)) (now (light .entry))) given incoming stored ⌝ }
 {
-    match decode::decode(cells, fog, light) {
-        Decoded::Refused(refusal) => Drawn::Refused(refusal),
-        Decoded::Held(settings) => draw_with(settings, given, incoming, stored),
+    match decode::check(cells, fog, light) {
+        Checked::Refused(refusal) => Drawn::Refused(refusal),
+        Checked::Named => draw_with(cells, given, incoming, stored),
     }
 }

@@ -2,3 +2,4 @@ pub mod Channels
 pub mod Comparisons
 pub mod Kept
 pub mod Determined
+pub mod Orders

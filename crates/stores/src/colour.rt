@@ -1,6 +1,8 @@
 // The colour that is stored. The contracts cite specs/Logic.antt and specs/Stores.antt.
 ghost use mathlib.Core.Path.{_≡_};
-ghost use Rattle.settings.specs.Ranges.{bits};
+ghost use lib.ListN.{length};
+ghost use Rattle.settings.specs.Ranges.{bits, inCells};
+ghost use Rattle.settings.specs.Framebuffer.{depthIn, framebufferIn};
 ghost use Rattle.settings.specs.Stages.{colourIn};
 ghost use Rattle.numbers.specs.Pick.{pick};
 ghost use Rattle.stores.specs.Logic.{logical, logicalColour};
@@ -8,8 +10,6 @@ ghost use Rattle.stores.specs.Stores.{colourUnder, colourAfter};
 ghost use Rattle.stores.specs.Packed.{packed};
 use crate::Verdict;
 use settings::records::Colour;
-use settings::records::DepthColourMask;
-use settings::records::Framebuffer;
 
 // A colour as one word, as a colour register holds it.
 fn pack(c: Colour) -> u32
@@ -67,31 +67,32 @@ fn keep_or(write: bool, new: u8, old: u8) -> u8
     if write { new } else { old }
 }
 
-fn colour_under(writing: u32, m: DepthColourMask, new: Colour, old: Colour) -> Colour
-    ensures { λ r. ⌜ r ≡ colourUnder writing m new old ⌝ }
+// writing is the word of 113, x that of 107.
+fn colour_under(writing: u32, x: u32, new: Colour, old: Colour) -> Colour
+    ensures { λ r. ⌜ r ≡ colourUnder (bits writing 0 3) (depthIn (bits x)) new old ⌝ }
 {
-    let any = writing != 0;
+    let any = writing % 16 != 0;
     Colour {
-        red: keep_or(any & (m.red == 1), new.red, old.red),
-        green: keep_or(any & (m.green == 1), new.green, old.green),
-        blue: keep_or(any & (m.blue == 1), new.blue, old.blue),
-        alpha: keep_or(any & (m.alpha == 1), new.alpha, old.alpha),
+        red: keep_or(any & ((x >> 8) % 2 == 1), new.red, old.red),
+        green: keep_or(any & ((x >> 9) % 2 == 1), new.green, old.green),
+        blue: keep_or(any & ((x >> 10) % 2 == 1), new.blue, old.blue),
+        alpha: keep_or(any & ((x >> 11) % 2 == 1), new.alpha, old.alpha),
     }
 }
 
-pub fn colour_after(f: Framebuffer, v: Verdict, result: Colour, stored: Colour) -> Colour
-    ensures { λ r. ⌜ r ≡ colourAfter f v result stored ⌝ }
+pub fn colour_after(cells: &[u32], v: Verdict, result: Colour, stored: Colour) -> Colour
+    requires { ⌜ length (now cells) ≡ 768 ⌝ }
+    ensures { λ r. ⌜ r ≡ colourAfter (framebufferIn (inCells (now (cells .entry)))) v result stored ⌝ }
 {
-    let m = f.tests.depth;
+    let op = cells[0x102];
+    let m = cells[0x107];
+    let writing = cells[0x113];
     match v {
         Verdict::AlphaFails => stored,
         Verdict::StencilFails => stored,
         Verdict::DepthFails => stored,
-        Verdict::Passes => colour_under(
-            f.buffers.colour_writing,
-            m,
-            logic_colour(f.blending.logic_op, result, stored),
-            stored,
-        ),
+        Verdict::Passes => {
+            colour_under(writing, m, logic_colour(op % 16, result, stored), stored)
+        }
     }
 }

@@ -1,8 +1,10 @@
 // The verdict of the three tests on one fragment, and what it stores. The contracts cite specs/Stores.antt.
 ghost use mathlib.Core.Path.{_≡_};
+ghost use lib.ListN.{length};
+ghost use Rattle.settings.specs.Ranges.{inCells};
+ghost use Rattle.settings.specs.Framebuffer.{framebufferIn};
 ghost use Rattle.stores.specs.Stores.{depthAfter, judgedOf};
 use settings::records::Colour;
-use settings::records::Framebuffer;
 
 pub mod colour;
 mod stencil;
@@ -28,18 +30,18 @@ pub struct Judged {
     pub depth: u32,
 }
 
-fn depth_after(f: Framebuffer, v: Verdict, incoming: u32, stored: u32) -> u32
-    ensures { λ r. ⌜ r ≡ depthAfter f v incoming stored ⌝ }
+fn depth_after(cells: &[u32], v: Verdict, incoming: u32, stored: u32) -> u32
+    requires { ⌜ length (now cells) ≡ 768 ⌝ }
+    ensures { λ r. ⌜ r ≡ depthAfter (framebufferIn (inCells (now (cells .entry)))) v incoming stored ⌝ }
 {
+    let test = cells[0x107];
+    let writing = cells[0x115];
     match v {
         Verdict::AlphaFails => stored,
         Verdict::StencilFails => stored,
         Verdict::DepthFails => stored,
         Verdict::Passes => {
-            if (f.tests.depth.enable == 1)
-                & (f.tests.depth.depth == 1)
-                & (f.buffers.depth_writing.depth == 1)
-            {
+            if (test % 2 == 1) & ((test >> 12) % 2 == 1) & ((writing >> 1) % 2 == 1) {
                 incoming
             } else {
                 stored
@@ -48,14 +50,15 @@ fn depth_after(f: Framebuffer, v: Verdict, incoming: u32, stored: u32) -> u32
     }
 }
 
-// From the result's alpha, the incoming depth, and the stored stencil and depth; the colour goes by the verdict, `colour::colour_after`.
-pub fn judge(f: Framebuffer, alpha: u8, incoming: u32, stencil: u8, depth: u32) -> Judged
-    ensures { λ r. ⌜ r ≡ judgedOf f alpha incoming stencil depth ⌝ }
+// By the registers of the cells, from the result's alpha, the incoming depth, and the stored stencil and depth; the colour goes by the verdict, `colour::colour_after`.
+pub fn judge(cells: &[u32], alpha: u8, incoming: u32, stencil: u8, depth: u32) -> Judged
+    requires { ⌜ length (now cells) ≡ 768 ⌝ }
+    ensures { λ r. ⌜ r ≡ judgedOf (framebufferIn (inCells (now (cells .entry)))) alpha incoming stencil depth ⌝ }
 {
-    let verdict = tests::find_verdict(f, alpha, incoming, stencil, depth);
+    let verdict = tests::find_verdict(cells, alpha, incoming, stencil, depth);
     Judged {
         verdict,
-        stencil: stencil::stencil_after(f, verdict, stencil),
-        depth: depth_after(f, verdict, incoming, depth),
+        stencil: stencil::stencil_after(cells, verdict, stencil),
+        depth: depth_after(cells, verdict, incoming, depth),
     }
 }

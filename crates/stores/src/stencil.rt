@@ -1,11 +1,13 @@
 // The stencil that is stored. The contracts cite specs/Stencil.antt and specs/Stores.antt.
 ghost use mathlib.Core.Path.{_≡_};
 ghost use Prim.Native.Nat.{_+_, _-_, min};
+ghost use lib.ListN.{length};
+ghost use Rattle.settings.specs.Ranges.{inCells};
+ghost use Rattle.settings.specs.Framebuffer.{framebufferIn};
 ghost use Rattle.stores.specs.Stencil.{operated, masked};
 ghost use Rattle.stores.specs.Stores.{stencilBy, stencilAfter};
 use crate::Verdict;
 use crate::tests;
-use settings::records::Framebuffer;
 
 fn up(x: u8) -> u8
     ensures { λ r. ⌜ r ≡ min (x + 1) 255 ⌝ }
@@ -43,24 +45,33 @@ fn put_under(mask: u8, stored: u8, new: u8) -> u8
     ((stored as u32 & !m) | (new as u32 & m)) as u8
 }
 
-fn stencil_by(f: Framebuffer, op: u32, stored: u8) -> u8
-    ensures { λ r. ⌜ r ≡ stencilBy f op stored ⌝ }
+fn stencil_by(cells: &[u32], op: u32, stored: u8) -> u8
+    requires { ⌜ length (now cells) ≡ 768 ⌝ }
+    ensures { λ r. ⌜ r ≡ stencilBy (framebufferIn (inCells (now (cells .entry)))) op stored ⌝ }
 {
-    let t = f.tests.stencil;
-    if tests::stencil_active(t, f.buffers.depth_format) & (f.buffers.depth_writing.stencil == 1) {
-        put_under(t.buffer_mask, stored, operate(op, stored, t.reference))
+    let test = cells[0x105];
+    let writing = cells[0x115];
+    let format = cells[0x116];
+    if tests::stencil_active(test, format) & (writing % 2 == 1) {
+        put_under(
+            ((test >> 8) % 256) as u8,
+            stored,
+            operate(op, stored, ((test >> 16) % 256) as u8),
+        )
     } else {
         stored
     }
 }
 
-pub fn stencil_after(f: Framebuffer, v: Verdict, stored: u8) -> u8
-    ensures { λ r. ⌜ r ≡ stencilAfter f v stored ⌝ }
+pub fn stencil_after(cells: &[u32], v: Verdict, stored: u8) -> u8
+    requires { ⌜ length (now cells) ≡ 768 ⌝ }
+    ensures { λ r. ⌜ r ≡ stencilAfter (framebufferIn (inCells (now (cells .entry)))) v stored ⌝ }
 {
+    let op = cells[0x106];
     match v {
         Verdict::AlphaFails => stored,
-        Verdict::StencilFails => stencil_by(f, f.tests.stencil_op.fail, stored),
-        Verdict::DepthFails => stencil_by(f, f.tests.stencil_op.z_fail, stored),
-        Verdict::Passes => stencil_by(f, f.tests.stencil_op.z_pass, stored),
+        Verdict::StencilFails => stencil_by(cells, op % 8, stored),
+        Verdict::DepthFails => stencil_by(cells, (op >> 4) % 8, stored),
+        Verdict::Passes => stencil_by(cells, (op >> 8) % 8, stored),
     }
 }

@@ -1,4 +1,7 @@
--- Channel by channel, as the calls ensure. Assumes nothing.
+-- As the calls ensure. Assumes nothing.
+use mathlib.Core.Path.{_∙_}
+use Rattle.combiner.specs.Words.{unpacked}
+use Rattle.combiner.proofs.Mixed.{picked-buffer}
 use borrow.Author.Needs.{needs}
 use Rattle.combiner.proofs.buffer_after.Statement.{statement}
 use Rattle.combiner.proofs.buffer_after.Tie as tie
@@ -9,16 +12,16 @@ choose-requires c κs = search needs
 choose-requires-2 : tie.Need-choose-requires-2
 choose-requires-2 c κs = search needs
 
-choose-requires-3 : tie.Need-choose-requires-3
-choose-requires-3 c κs = search needs
-
-choose-requires-4 : tie.Need-choose-requires-4
-choose-requires-4 c κs = search needs
+join-alpha-requires : tie.Need-join-alpha-requires
+join-alpha-requires c κs = search needs
 
 returns : tie.Need-returns
-returns c = rw (c .choose4 .ensures, c .before .choose3 .ensures, c .before .before .choose2 .ensures, c .before .before .before .choose .ensures)
+returns c =
+    let a = c .before .before .before .args in
+    c .join-alpha .ensures ∙
+    rw (c .before .choose2 .ensures, c .before .before .choose .ensures)
+    (picked-buffer (a .rgb) (a .alpha) (a .previous) (a .buffer))
 
 pub buffer-after-spec : {M : Type 1} → statement M
 buffer-after-spec =
-    tie.close
-    (tie.spec choose-requires choose-requires-2 choose-requires-3 choose-requires-4 returns)
+    tie.close (tie.spec choose-requires choose-requires-2 join-alpha-requires returns)

@@ -1,47 +1,32 @@
--- Stage by stage, as the calls ensure. Assumes nothing.
-use Rattle.combiner.specs.Chain.{combinerOf}
+-- As the calls ensure. Assumes nothing.
+use Rattle.combiner.proofs.Tables.{table-word}
 use borrow.Author.Needs.{needs}
 use Rattle.combiner.proofs.combine.Statement.{statement}
 use Rattle.combiner.proofs.combine.Tie as tie
 
-step-requires : tie.Need-step-requires
-step-requires c κs = search needs
+shared-slice-read-first-table : tie.Need-shared-slice-read-first-table
+shared-slice-read-first-table c = search needs
 
-step-requires-2 : tie.Need-step-requires-2
-step-requires-2 c κs = search needs
+first-table-requires : tie.Need-first-table-requires
+first-table-requires c κs = search needs
 
-step-requires-3 : tie.Need-step-requires-3
-step-requires-3 c κs = search needs
+run-stages-requires : tie.Need-run-stages-requires
+run-stages-requires c κs = search needs
 
-step-requires-4 : tie.Need-step-requires-4
-step-requires-4 c κs = search needs
-
-step-requires-5 : tie.Need-step-requires-5
-step-requires-5 c κs = search needs
-
-result-requires : tie.Need-result-requires
-result-requires c κs = search needs
+previous-in-requires : tie.Need-previous-in-requires
+previous-in-requires c κs = search needs
 
 returns : tie.Need-returns
-unfolding combinerOf
 returns c =
-    rw (
-      c .result .ensures,
-      c .before .step5 .ensures,
-      c .before .before .step4 .ensures,
-      c .before .before .before .step3 .ensures,
-      c .before .before .before .before .step2 .ensures,
-      c .before .before .before .before .before .step .ensures,
-    )
+    let a = c .before .before .before .before .before .before .before .args in
+    rw (c .previous-in .ensures, c .before .before .run-stages .ensures, c .before .before .before .before .first-table .ensures) (table-word (a .cells .now) (a .g))
 
 pub combine-spec : {M : Type 1} → statement M
 combine-spec =
     tie.close
     (tie.spec
-    step-requires
-    step-requires-2
-    step-requires-3
-    step-requires-4
-    step-requires-5
-    result-requires
+    shared-slice-read-first-table
+    first-table-requires
+    run-stages-requires
+    previous-in-requires
     returns)

@@ -1,45 +1,35 @@
--- Each way out is one case of `decodedOf`. Assumes nothing.
-use Rattle.decode.proofs.Cases.{length-refused, code-refused, all-named}
+-- By what `check` answers. Assumes nothing.
+use Rattle.decode.proofs.Cases.{refused-alike, named-held, named-sized}
 use Rattle.registers.proofs.Sizes.{lengths}
 use Rattle.registers.specs.State.{st}
-use borrow.Author.Tests.{not-true, not-false}
-use mathlib.Core.Path.{sym, _∙_}
+use mathlib.Core.Path.{ap, sym, _∙_}
+use Rattle.decode.specs.declared.Decoded.the-variants.{Held}
 use borrow.Author.Needs.{needs}
 use Rattle.decode.proofs.decode.Statement.{statement}
 use Rattle.decode.proofs.decode.Tie as tie
 
-is-sized-requires : tie.Need-is-sized-requires
-is-sized-requires c κs = search needs
+check-requires : tie.Need-check-requires
+check-requires c κs = search needs
 
-returns : tie.Need-returns
-returns c = sym (length-refused _ (sym (c .before .is-sized .ensures) ∙ not-true _ (c .if1 .taken)))
+enum-known-refusal : tie.Need-enum-known-refusal
+enum-known-refusal c = search needs
 
-nameless-id-requires : tie.Need-nameless-id-requires
-nameless-id-requires c κs =
-    let a = c .before .before .before .before .before .args in
-    lengths (st (a .cells .now) (a .fog .now) (a .light .now)) (sym (c .before .is-sized .ensures) ∙ not-false _ (c .if1 .left)) .0
-
-returns-2 : tie.Need-returns-2
-returns-2 c = sym (code-refused _ _ (sym (c .before .before .before .is-sized .ensures) ∙ not-false _ (c .before .before .if1 .left)) (c .before .nameless-id .ensures) (c .if2 .taken))
+enum-told : tie.Need-enum-told
+enum-told c = search needs
 
 read-settings-requires : tie.Need-read-settings-requires
 read-settings-requires c κs =
-    let a = c .before .before .before .before .before .before .before .args in
-    lengths (st (a .cells .now) (a .fog .now) (a .light .now)) (sym (c .before .before .before .is-sized .ensures) ∙ not-false _ (c .before .before .if1 .left)) .0
+    let a = c .before .before .before .before .before .before .args in
+    let s = st (a .cells .now) (a .fog .now) (a .light .now) in
+    lengths s (named-sized s (sym (c .before .before .check .ensures) ∙ c .enum-told .given .1)) .0
 
-returns-3 : tie.Need-returns-3
-returns-3 c =
-    sym
-    (all-named _ _ (sym (c .before .before .before .before .is-sized .ensures) ∙ not-false _ (c .before .before .before .if1 .left))
-    (sym (c .before .before .nameless-id .ensures) ∙ c .before .if2 .left) (c .read-settings .ensures))
+returns : tie.Need-returns
+returns c = sym (refused-alike _ _ (sym (c .before .before .before .check .ensures) ∙ c .before .refusal .given .1))
+
+returns-2 : tie.Need-returns-2
+returns-2 c = sym (named-held _ (sym (c .before .before .before .check .ensures) ∙ c .before .enum-told .given .1) ∙ ap Held (sym (c .read-settings .ensures)))
 
 pub decode-spec : {M : Type 1} → statement M
 decode-spec =
     tie.close
-    (tie.spec
-    is-sized-requires
-    returns
-    nameless-id-requires
-    returns-2
-    read-settings-requires
-    returns-3)
+    (tie.spec check-requires enum-known-refusal enum-told read-settings-requires returns returns-2)

@@ -1,5 +1,6 @@
 -- Test by test. Assumes nothing.
 use Rattle.fragment.proofs.Cases.{unbuilt-refused, incoming-refused, stored-refused, done}
+use Rattle.settings.specs.Settings.{settingsIn}
 use mathlib.Core.Path.{sym, _∙_}
 use borrow.Author.Needs.{needs}
 use Rattle.fragment.proofs.draw_with.Statement.{statement}
@@ -11,20 +12,26 @@ unbuilt-id-requires c κs = search needs
 returns : tie.Need-returns
 returns c = unbuilt-refused _ _ _ _ _ (c .before .unbuilt-id .ensures) (c .if1 .taken)
 
+shared-slice-read-largest-depth : tie.Need-shared-slice-read-largest-depth
+shared-slice-read-largest-depth c = search needs
+
 largest-depth-requires : tie.Need-largest-depth-requires
 largest-depth-requires c κs = search needs
 
 returns-2 : tie.Need-returns-2
-returns-2 c = incoming-refused _ _ _ _ (sym (c .before .before .before .unbuilt-id .ensures) ∙ c .before .before .if1 .left) _ (c .before .largest-depth .ensures) (c .if2 .taken)
+unfolding settingsIn
+returns-2 c = incoming-refused _ _ _ _ (sym (c .before .before .before .before .unbuilt-id .ensures) ∙ c .before .before .before .if1 .left) _ (c .before .largest-depth .ensures) (c .if2 .taken)
 
 returns-3 : tie.Need-returns-3
-returns-3 c = stored-refused _ _ _ _ (sym (c .before .before .before .before .before .unbuilt-id .ensures) ∙ c .before .before .before .before .if1 .left) _ (c .before .before .before .largest-depth .ensures) (c .before .before .if2 .left) (c .if3 .taken)
+unfolding settingsIn
+returns-3 c = stored-refused _ _ _ _ (sym (c .before .before .before .before .before .before .unbuilt-id .ensures) ∙ c .before .before .before .before .before .if1 .left) _ (c .before .before .before .largest-depth .ensures) (c .before .before .if2 .left) (c .if3 .taken)
 
 find-outcome-requires : tie.Need-find-outcome-requires
 find-outcome-requires c κs = search needs
 
 returns-4 : tie.Need-returns-4
-returns-4 c = done _ _ _ _ (sym (c .before .before .before .before .before .before .unbuilt-id .ensures) ∙ c .before .before .before .before .before .if1 .left) _ (c .before .before .before .before .largest-depth .ensures) _ (c .before .before .before .if2 .left) (c .before .if3 .left) (c .find-outcome .ensures)
+unfolding settingsIn
+returns-4 c = done _ _ _ _ (sym (c .before .before .before .before .before .before .before .unbuilt-id .ensures) ∙ c .before .before .before .before .before .before .if1 .left) _ (c .before .before .before .before .largest-depth .ensures) _ (c .before .before .before .if2 .left) (c .before .if3 .left) (c .find-outcome .ensures)
 
 pub draw-with-spec : {M : Type 1} → statement M
 draw-with-spec =
@@ -32,6 +39,7 @@ draw-with-spec =
     (tie.spec
     unbuilt-id-requires
     returns
+    shared-slice-read-largest-depth
     largest-depth-requires
     returns-2
     returns-3

@@ -22,6 +22,12 @@ interpolate-requires c κs = search needs
 subtract-requires : tie.Need-subtract-requires
 subtract-requires c κs = search needs
 
+dot-words-requires : tie.Need-dot-words-requires
+dot-words-requires c κs = search needs
+
+dot-words-requires-2 : tie.Need-dot-words-requires-2
+dot-words-requires-2 c κs = search needs
+
 multiply-add-requires : tie.Need-multiply-add-requires
 multiply-add-requires c κs = search needs
 
@@ -54,11 +60,11 @@ returns-6 c = rw (c .before .match .keys6) (c .subtract .ensures)
 
 returns-7 : tie.Need-returns-7
 unfolding combined
-returns-7 c = rw (c .match .keys7)
+returns-7 c = rw (c .before .match .keys7) (c .dot-words .ensures)
 
 returns-8 : tie.Need-returns-8
 unfolding combined
-returns-8 c = rw (c .match .keys8)
+returns-8 c = rw (c .before .match .keys8) (c .dot-words2 .ensures)
 
 returns-9 : tie.Need-returns-9
 unfolding combined
@@ -79,6 +85,8 @@ combine-spec =
     add-signed-requires
     interpolate-requires
     subtract-requires
+    dot-words-requires
+    dot-words-requires-2
     multiply-add-requires
     add-multiply-requires
     returns

@@ -1,52 +1,20 @@
--- As the calls ensure. Assumes nothing.
-use Rattle.combiner.specs.Stage.{alphaMixed}
+-- By the RGB mode. Assumes nothing.
+use borrow.Author.Tests.{eq-eqb, ne-eqb}
 use borrow.Author.Needs.{needs}
 use Rattle.combiner.proofs.stage.mix_alpha.Statement.{statement}
 use Rattle.combiner.proofs.stage.mix_alpha.Tie as tie
 
-alpha-operand-requires : tie.Need-alpha-operand-requires
-alpha-operand-requires c κs = search needs
+cast-result : tie.Need-cast-result
+cast-result c = search needs
 
-alpha-operand-requires-2 : tie.Need-alpha-operand-requires-2
-alpha-operand-requires-2 c κs = search needs
-
-alpha-operand-requires-3 : tie.Need-alpha-operand-requires-3
-alpha-operand-requires-3 c κs = search needs
-
-combine-requires : tie.Need-combine-requires
-combine-requires c κs = search needs
-
-choose-requires : tie.Need-choose-requires
-choose-requires c κs = search needs
-
-factor-requires : tie.Need-factor-requires
-factor-requires c κs = search needs
-
-times-requires : tie.Need-times-requires
-times-requires c κs = search needs
+own-alpha-requires : tie.Need-own-alpha-requires
+own-alpha-requires c κs = search needs
 
 returns : tie.Need-returns
-unfolding alphaMixed
-returns c =
-    rw (
-      c .times .ensures,
-      c .before .factor .ensures .0,
-      c .before .before .choose .ensures,
-      c .before .before .before .before .combine .ensures,
-      c .before .before .before .before .before .alpha-operand3 .ensures,
-      c .before .before .before .before .before .before .alpha-operand2 .ensures,
-      c .before .before .before .before .before .before .before .alpha-operand .ensures,
-    )
+returns c = rw (eq-eqb _ 7 (c .if1 .taken))
+
+returns-2 : tie.Need-returns-2
+returns-2 c = rw (ne-eqb _ 7 (c .before .if1 .left)) (c .own-alpha .ensures)
 
 pub mix-alpha-spec : {M : Type 1} → statement M
-mix-alpha-spec =
-    tie.close
-    (tie.spec
-    alpha-operand-requires
-    alpha-operand-requires-2
-    alpha-operand-requires-3
-    combine-requires
-    choose-requires
-    factor-requires
-    times-requires
-    returns)
+mix-alpha-spec = tie.close (tie.spec cast-result own-alpha-requires returns returns-2)

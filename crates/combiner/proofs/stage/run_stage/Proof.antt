@@ -1,8 +1,39 @@
 -- As the calls ensure. Assumes nothing.
-use Rattle.combiner.specs.Stage.{stageOf}
+use Rattle.combiner.proofs.Parts.{source-at}
+use Rattle.combiner.proofs.Mixed.{stage-parts}
+use Rattle.combiner.specs.Operands.{rgbOperand}
+use mathlib.Core.Path.{ap, sym, _∙_}
+use Prim.Native.Nat.{_/_, _%_, _^_}
 use borrow.Author.Needs.{needs}
 use Rattle.combiner.proofs.stage.run_stage.Statement.{statement}
 use Rattle.combiner.proofs.stage.run_stage.Tie as tie
+
+cast-rgb0 : tie.Need-cast-rgb0
+cast-rgb0 c = search needs
+
+mul-rgb0 : tie.Need-mul-rgb0
+mul-rgb0 c = search needs
+
+element-copy-out-rgb0 : tie.Need-element-copy-out-rgb0
+element-copy-out-rgb0 c = search needs
+
+cast-rgb1 : tie.Need-cast-rgb1
+cast-rgb1 c = search needs
+
+mul-rgb1 : tie.Need-mul-rgb1
+mul-rgb1 c = search needs
+
+element-copy-out-rgb1 : tie.Need-element-copy-out-rgb1
+element-copy-out-rgb1 c = search needs
+
+cast-rgb2 : tie.Need-cast-rgb2
+cast-rgb2 c = search needs
+
+mul-rgb2 : tie.Need-mul-rgb2
+mul-rgb2 c = search needs
+
+element-copy-out-rgb2 : tie.Need-element-copy-out-rgb2
+element-copy-out-rgb2 c = search needs
 
 rgb-operand-requires : tie.Need-rgb-operand-requires
 rgb-operand-requires c κs = search needs
@@ -13,35 +44,43 @@ rgb-operand-requires-2 c κs = search needs
 rgb-operand-requires-3 : tie.Need-rgb-operand-requires-3
 rgb-operand-requires-3 c κs = search needs
 
-dot3-requires : tie.Need-dot3-requires
-dot3-requires c κs = search needs
-
 mix-rgb-requires : tie.Need-mix-rgb-requires
 mix-rgb-requires c κs = search needs
 
 mix-alpha-requires : tie.Need-mix-alpha-requires
 mix-alpha-requires c κs = search needs
 
+finish-requires : tie.Need-finish-requires
+finish-requires c κs = search needs
+
 returns : tie.Need-returns
-unfolding stageOf
 returns c =
-    rw (
-      c .mix-alpha .ensures,
-      c .before .mix-rgb .ensures,
-      c .before .before .dot3 .ensures,
-      c .before .before .before .rgb-operand3 .ensures,
-      c .before .before .before .before .rgb-operand2 .ensures,
-      c .before .before .before .before .before .rgb-operand .ensures,
-    )
+    let a = c .before .before .before .before .before .before .before .before .before .args in
+    c .finish .ensures ∙
+    stage-parts _ _ _ _ _ _ _
+    (c .before .before .before .before .before .rgb-operand .ensures ∙ ap (rgbOperand (a .operand % 16)) (sym (source-at (a .table .now) (a .source))))
+    (c .before .before .before .before .rgb-operand2 .ensures ∙ ap (rgbOperand (a .operand / 2 ^ 4 % 16)) (sym (source-at (a .table .now) (a .source / 2 ^ 4))))
+    (c .before .before .before .rgb-operand3 .ensures ∙ ap (rgbOperand (a .operand / 2 ^ 8 % 16)) (sym (source-at (a .table .now) (a .source / 2 ^ 8))))
+    (c .before .before .mix-rgb .ensures)
+    (c .before .mix-alpha .ensures)
 
 pub run-stage-spec : {M : Type 1} → statement M
 run-stage-spec =
     tie.close
     (tie.spec
+    cast-rgb0
+    mul-rgb0
+    element-copy-out-rgb0
+    cast-rgb1
+    mul-rgb1
+    element-copy-out-rgb1
+    cast-rgb2
+    mul-rgb2
+    element-copy-out-rgb2
     rgb-operand-requires
     rgb-operand-requires-2
     rgb-operand-requires-3
-    dot3-requires
     mix-rgb-requires
     mix-alpha-requires
+    finish-requires
     returns)

@@ -1,68 +1,21 @@
--- Group by group, as the calls ensure. Assumes nothing.
-use Rattle.decode.proofs.First.{lowest-checks}
-use Rattle.settings.specs.Settings.{settingsIn}
+-- By the quick test. Assumes nothing.
+use Rattle.decode.proofs.First.{none-first}
+use mathlib.Core.Path.{sym, _∙_}
 use borrow.Author.Needs.{needs}
 use Rattle.decode.proofs.codes.nameless_id.Statement.{statement}
 use Rattle.decode.proofs.codes.nameless_id.Tie as tie
 
-shared-slice-read-update : tie.Need-shared-slice-read-update
-shared-slice-read-update c = search needs
+any-lacks-requires : tie.Need-any-lacks-requires
+any-lacks-requires c κs = search needs
 
-frame-first-requires : tie.Need-frame-first-requires
-frame-first-requires c κs = search needs
-
-stage-first-requires : tie.Need-stage-first-requires
-stage-first-requires c κs = search needs
-
-stage-first-requires-2 : tie.Need-stage-first-requires-2
-stage-first-requires-2 c κs = search needs
-
-update-lacks-requires : tie.Need-update-lacks-requires
-update-lacks-requires c κs = search needs
-
-first-of-requires : tie.Need-first-of-requires
-first-of-requires c κs = search needs
-
-stage-first-requires-3 : tie.Need-stage-first-requires-3
-stage-first-requires-3 c κs = search needs
-
-stage-first-requires-4 : tie.Need-stage-first-requires-4
-stage-first-requires-4 c κs = search needs
-
-stage-first-requires-5 : tie.Need-stage-first-requires-5
-stage-first-requires-5 c κs = search needs
-
-stage-first-requires-6 : tie.Need-stage-first-requires-6
-stage-first-requires-6 c κs = search needs
+lowest-id-requires : tie.Need-lowest-id-requires
+lowest-id-requires c κs = search needs
 
 returns : tie.Need-returns
-unfolding settingsIn
-returns c =
-    rw (
-      lowest-checks,
-      c .stage-first6 .ensures,
-      c .before .stage-first5 .ensures,
-      c .before .before .stage-first4 .ensures,
-      c .before .before .before .stage-first3 .ensures,
-      c .before .before .before .before .first-of .ensures,
-      c .before .before .before .before .before .update-lacks .ensures,
-      c .before .before .before .before .before .before .stage-first2 .ensures,
-      c .before .before .before .before .before .before .before .stage-first .ensures,
-      c .before .before .before .before .before .before .before .before .frame-first .ensures,
-    )
+returns c = search needs
+
+returns-2 : tie.Need-returns-2
+returns-2 c = sym (none-first _ 0 (sym (c .before .any-lacks .ensures) ∙ c .if1 .left))
 
 pub nameless-id-spec : {M : Type 1} → statement M
-nameless-id-spec =
-    tie.close
-    (tie.spec
-    shared-slice-read-update
-    frame-first-requires
-    stage-first-requires
-    stage-first-requires-2
-    update-lacks-requires
-    first-of-requires
-    stage-first-requires-3
-    stage-first-requires-4
-    stage-first-requires-5
-    stage-first-requires-6
-    returns)
+nameless-id-spec = tie.close (tie.spec any-lacks-requires lowest-id-requires returns returns-2)

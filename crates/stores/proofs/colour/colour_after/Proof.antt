@@ -4,6 +4,15 @@ use borrow.Author.Needs.{needs}
 use Rattle.stores.proofs.colour.colour_after.Statement.{statement}
 use Rattle.stores.proofs.colour.colour_after.Tie as tie
 
+shared-slice-read-op : tie.Need-shared-slice-read-op
+shared-slice-read-op c = search needs
+
+shared-slice-read-m : tie.Need-shared-slice-read-m
+shared-slice-read-m c = search needs
+
+shared-slice-read-writing : tie.Need-shared-slice-read-writing
+shared-slice-read-writing c = search needs
+
 enum-told : tie.Need-enum-told
 enum-told c = search needs
 
@@ -42,6 +51,9 @@ pub colour-after-spec : {M : Type 1} → statement M
 colour-after-spec =
     tie.close
     (tie.spec
+    shared-slice-read-op
+    shared-slice-read-m
+    shared-slice-read-writing
     enum-told
     enum-told-2
     enum-told-3

@@ -1,4 +1,4 @@
--- Channel by channel, as the calls ensure. Assumes nothing.
+-- As the calls ensure. Assumes nothing.
 use borrow.Author.Needs.{needs}
 use Rattle.stores.proofs.colour.colour_under.Statement.{statement}
 use Rattle.stores.proofs.colour.colour_under.Tie as tie
@@ -16,7 +16,7 @@ keep-or-requires-4 : tie.Need-keep-or-requires-4
 keep-or-requires-4 c κs = search needs
 
 returns : tie.Need-returns
-returns c = rw (c .keep-or4 .ensures, c .before .before .keep-or3 .ensures, c .before .before .before .before .keep-or2 .ensures, c .before .before .before .before .before .before .keep-or .ensures)
+returns c = rw (c .keep-or4 .ensures, c .before .keep-or3 .ensures, c .before .before .keep-or2 .ensures, c .before .before .before .keep-or .ensures)
 
 pub colour-under-spec : {M : Type 1} → statement M
 colour-under-spec =

@@ -4,6 +4,9 @@ use borrow.Author.Needs.{needs}
 use Rattle.stores.proofs.stencil.stencil_after.Statement.{statement}
 use Rattle.stores.proofs.stencil.stencil_after.Tie as tie
 
+shared-slice-read-op : tie.Need-shared-slice-read-op
+shared-slice-read-op c = search needs
+
 enum-told : tie.Need-enum-told
 enum-told c = search needs
 
@@ -45,6 +48,7 @@ pub stencil-after-spec : {M : Type 1} → statement M
 stencil-after-spec =
     tie.close
     (tie.spec
+    shared-slice-read-op
     enum-told
     enum-told-2
     stencil-by-requires

@@ -1,4 +1,4 @@
--- As the call ensures. Assumes nothing.
+-- As the calls ensure. Assumes nothing.
 use borrow.Author.Needs.{needs}
 use Rattle.stores.proofs.tests.depth_passes.Statement.{statement}
 use Rattle.stores.proofs.tests.depth_passes.Tie as tie

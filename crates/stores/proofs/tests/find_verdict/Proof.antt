@@ -4,6 +4,18 @@ use borrow.Author.Needs.{needs}
 use Rattle.stores.proofs.tests.find_verdict.Statement.{statement}
 use Rattle.stores.proofs.tests.find_verdict.Tie as tie
 
+shared-slice-read-alpha-test : tie.Need-shared-slice-read-alpha-test
+shared-slice-read-alpha-test c = search needs
+
+shared-slice-read-stencil-test : tie.Need-shared-slice-read-stencil-test
+shared-slice-read-stencil-test c = search needs
+
+shared-slice-read-depth-test : tie.Need-shared-slice-read-depth-test
+shared-slice-read-depth-test c = search needs
+
+shared-slice-read-format : tie.Need-shared-slice-read-format
+shared-slice-read-format c = search needs
+
 alpha-passes-requires : tie.Need-alpha-passes-requires
 alpha-passes-requires c κs = search needs
 
@@ -24,6 +36,10 @@ pub find-verdict-spec : {M : Type 1} → statement M
 find-verdict-spec =
     tie.close
     (tie.spec
+    shared-slice-read-alpha-test
+    shared-slice-read-stencil-test
+    shared-slice-read-depth-test
+    shared-slice-read-format
     alpha-passes-requires
     stencil-passes-requires
     depth-passes-requires

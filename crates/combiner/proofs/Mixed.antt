@@ -1,0 +1,90 @@
+-- A stage's result from its parts as the code makes them. Assumes nothing.
+use mathlib.Core.Path.{_≡_, refl}
+use mathlib.Core.Bool.{Bool, true, false}
+use mathlib.Core.List.{List}
+use Prim.Native.Nat.{ℕ, _/_, _%_, _^_}
+use lib.Dec.{eqb}
+use lib.ListN.{getD, set}
+use borrow.Author.Tests.{eqb-true}
+use Rattle.numbers.specs.Pick.{pick}
+use Rattle.settings.specs.Ranges.{bits}
+use Rattle.settings.specs.Stages.{sourceIn, operandIn}
+use Rattle.settings.specs.declared.records.Stage.{Stage}
+use Rattle.combiner.specs.Dot.{dot3Of}
+use Rattle.combiner.specs.Modes.{combined, scaled}
+use Rattle.combiner.specs.Operands.{sourcesOf, rgbOperand, alphaOperand}
+use Rattle.combiner.specs.Stage.{joined, alphaMixed, stageOf}
+use Rattle.combiner.specs.Chain.{bufferAfter}
+use Rattle.combiner.specs.Words.{unpacked, rgbIn, rgbCombined, rgbScaled, ownAlpha, colours, fromTable, tableAfter}
+use Rattle.combiner.specs.declared.dot.Rgb.{Rgb}
+use Rattle.combiner.specs.declared.operands.Sources.{Sources}
+use Rattle.combiner.proofs.Parts.{source-at, colours-at, colours-set}
+
+pub same-joined : {x y : Rgb} {a b : ℕ} → x ≡ y → a ≡ b → joined x a ≡ joined y b
+same-joined p q = rw (p, q)
+
+-- alpha by its own mode, from the words of the table
+pub own-at : (ws : List ℕ) (source operand mode dot : ℕ)
+    → combined mode
+    (alphaOperand (bits operand 12 14) (unpacked (getD ws (source / 2 ^ 16 % 16) 0)))
+    (alphaOperand (bits operand 16 18) (unpacked (getD ws (source / 2 ^ 20 % 16) 0)))
+    (alphaOperand (bits operand 20 22) (unpacked (getD ws (source / 2 ^ 24 % 16) 0)))
+    dot
+    ≡ ownAlpha mode (operandIn (bits operand)) (sourcesOf (colours ws) (sourceIn (bits source))) dot
+own-at ws source operand mode dot =
+    rw (source-at ws (source / 2 ^ 16), source-at ws (source / 2 ^ 20), source-at ws (source / 2 ^ 24))
+
+-- in Dot3 RGBA the red of the result is the dot3
+red-dot : (mode a b c dot own : ℕ) (t : Bool) → eqb mode 7 ≡ t → pick t (combined mode a b c dot) own ≡ pick t dot own
+unfolding combined
+red-dot mode a b c dot own true e = rw (eqb-true mode 7 e)
+red-dot mode a b c dot own false e = refl
+
+pub stage-parts : (s : Stage) (from : Sources) (a b c m : Rgb) (alpha : ℕ)
+    → a ≡ rgbOperand (s .operand .rgb0) (from .rgb0)
+    → b ≡ rgbOperand (s .operand .rgb1) (from .rgb1)
+    → c ≡ rgbOperand (s .operand .rgb2) (from .rgb2)
+    → m ≡ rgbCombined (s .combiner .rgb) a b c (dot3Of a b)
+    → alpha ≡ pick (eqb (s .combiner .rgb) 7) (m .red) (ownAlpha (s .combiner .alpha) (s .operand) from (dot3Of a b))
+    → joined (rgbScaled (s .scale .rgb) m) (scaled (s .scale .alpha) alpha) ≡ stageOf s from
+unfolding alphaMixed stageOf
+stage-parts s from a b c m alpha ea eb ec em el =
+    rw (el, em, red-dot (s .combiner .rgb) (a .red) (b .red) (c .red) (dot3Of a b) (ownAlpha (s .combiner .alpha) (s .operand) from (dot3Of a b)) _ refl, ea, eb, ec)
+
+-- the table after a stage, from what the code stores
+pub step-table : (ws : List ℕ) (s : Stage) (k rgb alpha buffer result : ℕ)
+    → unpacked k ≡ s .colour
+    → unpacked buffer ≡ bufferAfter rgb alpha (record { previous = unpacked (getD ws 15 0); buffer = unpacked (getD ws 13 0) })
+    → unpacked result ≡ fromTable s (colours (set ws 14 k))
+    → colours (set (set (set ws 14 k) 13 buffer) 15 result) ≡ tableAfter s rgb alpha (colours ws)
+unfolding tableAfter
+step-table ws s k rgb alpha buffer result ek eb er =
+    rw (
+      colours-set (set (set ws 14 k) 13 buffer) 15 result,
+      colours-set (set ws 14 k) 13 buffer,
+      er,
+      eb,
+      colours-set ws 14 k,
+      ek,
+      colours-at ws 15,
+      colours-at ws 13,
+    )
+
+picked : (s t : Bool) (previous buffer : ℕ)
+    → joined (rgbIn (pick s previous buffer)) (unpacked (pick t previous buffer) .alpha)
+    ≡ record {
+      red = pick s (unpacked previous .red) (unpacked buffer .red);
+      green = pick s (unpacked previous .green) (unpacked buffer .green);
+      blue = pick s (unpacked previous .blue) (unpacked buffer .blue);
+      alpha = pick t (unpacked previous .alpha) (unpacked buffer .alpha);
+    }
+unfolding unpacked
+picked true true previous buffer = refl
+picked true false previous buffer = refl
+picked false true previous buffer = refl
+picked false false previous buffer = refl
+
+pub picked-buffer : (rgb alpha previous buffer : ℕ)
+    → joined (rgbIn (pick (eqb rgb 1) previous buffer)) (unpacked (pick (eqb alpha 1) previous buffer) .alpha)
+    ≡ bufferAfter rgb alpha (record { previous = unpacked previous; buffer = unpacked buffer })
+picked-buffer rgb alpha previous buffer = picked (eqb rgb 1) (eqb alpha 1) previous buffer

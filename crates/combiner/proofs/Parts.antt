@@ -1,0 +1,86 @@
+-- Colours as words: what a word's parts are, and the table of words. Assumes nothing.
+use mathlib.Core.Path.{_≡_, refl}
+use mathlib.Core.List.{List, [], _∷_, map}
+use Prim.Native.Nat.{ℕ, zero, suc, _+_, _-_, _*_, _/_, _%_, _^_, _<_, _≤_}
+use native.Mathlib.Omega.{arith}
+use lib.ListN.{getD, set, List·getD-map}
+use Rattle.settings.specs.declared.records.Colour.{Colour}
+use Rattle.settings.proofs.Bytes.{Bytes}
+use Rattle.combiner.specs.Operands.{black, sourceOf, alphaPart}
+use Rattle.combiner.specs.Stage.{joined}
+use Rattle.combiner.specs.Words.{unpacked, rgb, rgbIn, colours}
+use Rattle.combiner.specs.declared.dot.Rgb.{Rgb}
+
+-- EQUAL CHANNELS
+
+abbrev pub colour : ℕ → ℕ → ℕ → ℕ → Colour
+colour r g b a = record { red = r; green = g; blue = b; alpha = a }
+
+pub same-colour : {r g b a r′ g′ b′ a′ : ℕ} → r ≡ r′ → g ≡ g′ → b ≡ b′ → a ≡ a′ → colour r g b a ≡ colour r′ g′ b′ a′
+same-colour p q s t = cc
+
+pub same-rgb : {r g b r′ g′ b′ : ℕ} → r ≡ r′ → g ≡ g′ → b ≡ b′ → rgb r g b ≡ rgb r′ g′ b′
+same-rgb p q s = cc
+
+-- WORDS
+
+pub packed-back : (c : Colour) → Bytes c → unpacked (c .red + c .green * 0x100 + c .blue * 0x10000 + c .alpha * 0x1000000) ≡ c
+unfolding unpacked
+packed-back c h = same-colour (omega arith) (omega arith) (omega arith) (omega arith)
+
+pub rgb-back : (r g b : ℕ) → r ≤ 255 → g ≤ 255 → b ≤ 255 → rgbIn (r + g * 0x100 + b * 0x10000) ≡ rgb r g b
+rgb-back r g b hr hg hb = same-rgb (omega arith) (omega arith) (omega arith)
+
+pub grey-back : (x : ℕ) → x ≤ 255 → rgbIn (x * 0x10101) ≡ rgb x x x
+grey-back x h = let e : x * 0x10101 ≡ x + x * 0x100 + x * 0x10000 = omega arith in rw e (rgb-back x x x h h h)
+
+pub one-minus-back : (x : ℕ) → x < 0x100000000
+    → rgbIn (0xFFFFFFFF - x) ≡ rgb (255 - rgbIn x .red) (255 - rgbIn x .green) (255 - rgbIn x .blue)
+one-minus-back x h = same-rgb (omega arith) (omega arith) (omega arith)
+
+pub low-back : (x : ℕ) → rgbIn (x % 0x1000000) ≡ rgbIn x
+low-back x = same-rgb (omega arith) (omega arith) (omega arith)
+
+pub joined-back : (low high : ℕ) → low < 0x1000000 → high ≤ 255 → unpacked (low + high * 0x1000000) ≡ joined (rgbIn low) high
+unfolding unpacked
+joined-back low high h k = same-colour (omega arith) (omega arith) (omega arith) (omega arith)
+
+pub joined-alpha : (low high : ℕ) → high < 0x100000000
+    → unpacked (low % 0x1000000 + high / 0x1000000 * 0x1000000) ≡ joined (rgbIn low) (unpacked high .alpha)
+unfolding unpacked
+joined-alpha low high k = same-colour (omega arith) (omega arith) (omega arith) (omega arith)
+
+pub unpacked-bytes : (x : ℕ) → Bytes (unpacked x)
+unfolding unpacked
+unpacked-bytes x = record { red = omega arith; green = omega arith; blue = omega arith; alpha = omega arith }
+
+-- a byte of a word by a shift
+by-shift : (half x : ℕ) → half < 4
+    → x / 2 ^ ((half * 8 + 24) % 32) % 256 ≡ getD (unpacked x .alpha ∷ unpacked x .red ∷ unpacked x .green ∷ unpacked x .blue ∷ []) half 0
+unfolding unpacked
+by-shift zero x h = refl
+by-shift (suc zero) x h = omega arith
+by-shift (suc (suc zero)) x h = refl
+by-shift (suc (suc (suc zero))) x h = refl
+by-shift (suc (suc (suc (suc n)))) x h = absurd (omega arith)
+
+pub alpha-by-shift : (code x : ℕ) → x / 2 ^ ((code / 2 % 4 * 8 + 24) % 32) % 256 ≡ alphaPart code (unpacked x)
+alpha-by-shift code x = by-shift (code / 2 % 4) x (omega arith)
+
+-- THE TABLE
+
+none : unpacked 0 ≡ black
+unfolding unpacked
+none = refl
+
+pub colours-at : (ws : List ℕ) (i : ℕ) → getD (colours ws) i black ≡ unpacked (getD ws i 0)
+colours-at ws i = rw (← none) (List·getD-map unpacked ws i 0)
+
+pub colours-set : (ws : List ℕ) (i x : ℕ) → colours (set ws i x) ≡ set (colours ws) i (unpacked x)
+colours-set [] zero x = refl
+colours-set [] (suc i) x = refl
+colours-set (w ∷ ws) zero x = refl
+colours-set (w ∷ ws) (suc i) x = rw (colours-set ws i x)
+
+pub source-at : (ws : List ℕ) (x : ℕ) → sourceOf (colours ws) (x % 16) ≡ unpacked (getD ws (x % 16) 0)
+source-at ws x = let e : x % 16 % 16 ≡ x % 16 = omega arith in rw e (colours-at ws (x % 16))

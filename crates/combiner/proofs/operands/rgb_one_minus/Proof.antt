@@ -1,0 +1,19 @@
+-- By the code. Assumes nothing.
+use borrow.Author.Tests.{eq-eqb, ne-eqb}
+use Rattle.combiner.proofs.Parts.{one-minus-back}
+use native.Mathlib.Omega.{arith}
+use borrow.Author.Needs.{needs}
+use Rattle.combiner.proofs.operands.rgb_one_minus.Statement.{statement}
+use Rattle.combiner.proofs.operands.rgb_one_minus.Tie as tie
+
+sub-result : tie.Need-sub-result
+sub-result c = search needs
+
+returns : tie.Need-returns
+returns c = rw (eq-eqb _ 1 (c .if1 .taken)) (one-minus-back _ (omega arith))
+
+returns-2 : tie.Need-returns-2
+returns-2 c = rw (ne-eqb _ 1 (c .if1 .left))
+
+pub rgb-one-minus-spec : {M : Type 1} → statement M
+rgb-one-minus-spec = tie.close (tie.spec sub-result returns returns-2)

@@ -1,0 +1,75 @@
+-- Group by group, as the calls ensure. Assumes nothing.
+use Rattle.decode.proofs.Nibbles.{or-any}
+use Rattle.decode.proofs.First.{any-checks}
+use Rattle.settings.specs.Settings.{settingsIn}
+use borrow.Author.Needs.{needs}
+use Rattle.decode.proofs.codes.any_lacks.Statement.{statement}
+use Rattle.decode.proofs.codes.any_lacks.Tie as tie
+
+shared-slice-read-update : tie.Need-shared-slice-read-update
+shared-slice-read-update c = search needs
+
+frame-lacks-requires : tie.Need-frame-lacks-requires
+frame-lacks-requires c κs = search needs
+
+bits-of-requires : tie.Need-bits-of-requires
+bits-of-requires c κs = search needs
+
+stage-bits-requires : tie.Need-stage-bits-requires
+stage-bits-requires c κs = search needs
+
+stage-bits-requires-2 : tie.Need-stage-bits-requires-2
+stage-bits-requires-2 c κs = search needs
+
+update-lacks-requires : tie.Need-update-lacks-requires
+update-lacks-requires c κs = search needs
+
+bits-of-requires-2 : tie.Need-bits-of-requires-2
+bits-of-requires-2 c κs = search needs
+
+stage-bits-requires-3 : tie.Need-stage-bits-requires-3
+stage-bits-requires-3 c κs = search needs
+
+stage-bits-requires-4 : tie.Need-stage-bits-requires-4
+stage-bits-requires-4 c κs = search needs
+
+stage-bits-requires-5 : tie.Need-stage-bits-requires-5
+stage-bits-requires-5 c κs = search needs
+
+stage-bits-requires-6 : tie.Need-stage-bits-requires-6
+stage-bits-requires-6 c κs = search needs
+
+returns : tie.Need-returns
+unfolding settingsIn
+returns c =
+    rw (
+      any-checks,
+      c .stage-bits6 .ensures,
+      c .before .stage-bits5 .ensures,
+      c .before .before .stage-bits4 .ensures,
+      c .before .before .before .stage-bits3 .ensures,
+      or-any (c .before .before .before .before .bits-of2 .result) (c .before .before .before .before .before .before .stage-bits2 .result),
+      c .before .before .before .before .bits-of2 .ensures,
+      c .before .before .before .before .before .update-lacks .ensures,
+      c .before .before .before .before .before .before .stage-bits2 .ensures,
+      c .before .before .before .before .before .before .before .stage-bits .ensures,
+      c .before .before .before .before .before .before .before .before .bits-of .ensures,
+      c .before .before .before .before .before .before .before .before .before .frame-lacks .ensures,
+    )
+
+pub any-lacks-spec : {M : Type 1} → statement M
+any-lacks-spec =
+    tie.close
+    (tie.spec
+    shared-slice-read-update
+    frame-lacks-requires
+    bits-of-requires
+    stage-bits-requires
+    stage-bits-requires-2
+    update-lacks-requires
+    bits-of-requires-2
+    stage-bits-requires-3
+    stage-bits-requires-4
+    stage-bits-requires-5
+    stage-bits-requires-6
+    returns)
