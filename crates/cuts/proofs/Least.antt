@@ -57,6 +57,11 @@ module _ {A : Type 0} {span : List A → ℕ} (s : Spans span) where
   none-better : (l : List A) → Best l
   none-better = by-rests Best best-nil best-cons
 
+  -- what is left after one write more takes no more words
+  pub least-falls : (l : List A) → least span (drop 1 l) ≤ least span l
+  least-falls [] = omega arith
+  least-falls (a ∷ l) = one-fewer a l (none-better l)
+
   -- THE LEAST: no cut takes fewer words
   pub least-low : (l : List A) (ks : List ℕ) → Cut span l ks → least span l ≤ total ks
   least-low l [] c = omega (arith, least-nil span l (ap length c))

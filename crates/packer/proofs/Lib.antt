@@ -1,3 +1,4 @@
+pub mod Plain
 pub mod Given
 pub mod Packs
 pub mod Demand

@@ -12,6 +12,10 @@ use words::Refusal;
 fn wrong_with(id: u32, mask: u32) -> u32
     ensures { λ r. ⌜ r ≡ wrong id mask ⌝ }
 {
+    // Most writes: all four bytes of an id below the jump registers.
+    if (mask == 15) & (id < 0x23C) {
+        return 0;
+    }
     if 15 < mask {
         return words::MASK_ABOVE_15;
     }

@@ -13,7 +13,7 @@ use Rattle.words.specs.Writes.{Write, writing}
 use Rattle.cuts.specs.Cuts.{words, after, size, table, least, first}
 use Rattle.cuts.proofs.Choice.{size-same, after-drop}
 use Rattle.cuts.proofs.Steps.{table-at, first-at, least-of, least-nil}
-use Rattle.cuts.proofs.Least.{least-short}
+use Rattle.cuts.proofs.Least.{least-short, least-falls}
 use Rattle.runs.specs.Span.{leads, chain, span}
 use Rattle.runs.specs.Packed.{writes, OneCommand}
 use Rattle.runs.proofs.Chain.{spans, chain-nil, chain-cons, span-is}
@@ -102,6 +102,12 @@ module _ (ws : List Write) (t u : List ℕ) (i : ℕ) (h : i < length ws) (P : P
       go-sizes : (j : ℕ) → i ≤ j → j < length ws → Dec (i < j) → getD (set u i x) j 0 + 1 ≡ first span (drop j ws)
       go-sizes j p q (yes d) = rw (getD-set-other u i j x 0 (omega arith)) (P .sizes j (omega arith) q)
       go-sizes j p q (no d) = let z : j ≡ i = omega arith in rw (z, getD-set-same u i x 0 hu) f
+
+-- the planned words fall from write to write
+pub plan-falls : (ws : List Write) (m j k : ℕ) (t u : List ℕ) → PlannedFrom m ws t u → m ≤ j → j < length ws → k ≡ j + 1 → getD t k 0 ≤ getD t j 0
+plan-falls ws m j k t u P p q e =
+    let d : least span (drop k ws) ≤ least span (drop j ws) = rw (e, ← drop-drop 1 j ws) (least-falls spans (drop j ws)) in
+    omega (arith, P .words j p (omega arith), P .words k (omega arith) (omega arith))
 
 -- WHAT THE PLAN KEEPS, whatever the values: the two chains from write i on, the least words of what is left, and the tables
 pub record Kept (ws : List Write) (i same rise need : ℕ) (t u : List ℕ) : Type 0 where

@@ -3,9 +3,9 @@
 ghost use mathlib.Core.Path.{_≡_};
 ghost use mathlib.Core.Bool.{_&&_};
 ghost use mathlib.Core.List.{List};
-ghost use Prim.Native.Nat.{ℕ, _+_, _≤_, _<_, min, max};
+ghost use Prim.Native.Nat.{ℕ, _+_, _-_, _≤_, _<_, min, max};
 ghost use lib.Dec.{eqb};
-ghost use lib.ListN.{length, drop};
+ghost use lib.ListN.{length, getD, drop};
 ghost use Rattle.numbers.specs.Pick.{pick};
 ghost use Rattle.cuts.specs.Cuts.{words};
 ghost use Rattle.runs.specs.Packed.{writes};
@@ -58,13 +58,14 @@ struct Choice {
     words: usize,
 }
 
-// The choice at write i, whose command can carry n writes: n, or one fewer where that takes fewer words.
+// The choice at write i, whose command can carry n writes: n, or one fewer where that takes fewer words, which an even n alone can do: an odd n
+// has no padding word to save, and what is left after one write more takes no more words.
 fn choose(least: &[u16], i: usize, n: usize) -> Choice
-    requires { ⌜ (1 ≤ n) × (n ≤ 256) × (i + n < length (now least)) × (i + n ≤ 4096) ⌝ }
+    requires { ⌜ (1 ≤ n) × (n ≤ 256) × (i + n < length (now least)) × (i + n ≤ 4096) × (2 ≤ n → getD (now least) (i + n) 0 ≤ getD (now least) (i + n - 1) 0) ⌝ }
     ensures { λ r. ⌜ Chose n (drop (i + 1) (now (least .entry))) r ⌝ }
 {
     let whole = words_of(n) + wide(least[i + n]);
-    if n < 2 {
+    if n % 2 == 1 {
         return Choice {
             size: n,
             words: whole,

@@ -1,13 +1,24 @@
 -- Each way out is one case of `size`, with its words. Assumes nothing.
-use mathlib.Core.Path.{_≡_}
-use Prim.Native.Nat.{_+_, _-_}
+use mathlib.Core.Path.{_≡_, refl}
+use mathlib.Core.List.{List}
+use Prim.Native.Nat.{ℕ, _+_, _-_, _%_, _≤_, _<_}
+use native.Mathlib.Decide.{decLt}
 use native.Mathlib.Omega.{arith}
-use lib.ListN.{drop}
+use lib.ListN.{getD, drop}
 use borrow.Author.Needs.{needs}
-use Rattle.cuts.specs.Cuts.{after}
+use Rattle.cuts.specs.Cuts.{after, size}
 use Rattle.cuts.proofs.Choice.{size-whole, size-fewer, size-lone, after-drop}
 use Rattle.planning.proofs.choose.Statement.{statement}
 use Rattle.planning.proofs.choose.Tie as tie
+
+odd-whole : (n i : ℕ) (t : List ℕ) → n % 2 ≡ 1 → (2 ≤ n → getD t (i + n) 0 ≤ getD t (i + n - 1) 0) → n ≡ size n (drop (i + 1) t)
+odd-whole n i t o m = by-lone (decLt n 2)
+  where
+    by-lone : Dec (n < 2) → n ≡ size n (drop (i + 1) t)
+    by-lone (yes l) = size-lone n (drop (i + 1) t) (omega arith)
+    by-lone (no l) =
+        size-whole n (drop (i + 1) t)
+        (omega (arith, m (omega arith), after-drop t i n (i + n) (omega arith) refl, after-drop t i (n - 1) (i + n - 1) (omega arith) (omega arith)))
 
 words-of-requires : tie.Need-words-of-requires
 words-of-requires c κs = search needs
@@ -32,7 +43,7 @@ returns c =
     let a = c .before .before .before .before .before .args in
     let t = a .least .now in
     record {
-      size = size-lone (a .n) (drop (a .i + 1) t) (omega arith);
+      size = odd-whole (a .n) (a .i) t (c .if1 .taken) (c .before .before .before .before .before .pre .4);
       words = omega (arith, after-drop t (a .i) (a .n) (a .i + a .n) (omega arith) (omega arith));
     }
 

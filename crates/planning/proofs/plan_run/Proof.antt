@@ -15,7 +15,7 @@ use Rattle.runs.specs.Span.{chain}
 use Rattle.runs.specs.Packed.{writes}
 use Rattle.runs.proofs.Chain.{chain-fits}
 use Rattle.runs.proofs.Writes.{writes-length}
-use Rattle.planning.proofs.Plans.{Kept, kept-none, kept-more, chain-linked, span-within, Right, choice-right}
+use Rattle.planning.proofs.Plans.{plan-falls, Kept, kept-none, kept-more, chain-linked, span-within, Right, choice-right}
 use Rattle.planning.proofs.plan_run.Statement.{statement}
 use Rattle.planning.proofs.plan_run.Tie as tie
 
@@ -111,8 +111,13 @@ choose-requires c κs =
     let o = c .before .before .before .before .before .before .before .loop in
     let d = chains (c .before .before) (a .ids .now) refl in
     let n = writes-length (a .ids .now) (a .masks .now) (a .ids .now) (b .pre .0) refl in
-    let w = span-within (writes (a .ids .now) (a .masks .now) (a .ids .now)) (o .i - 1) _ _ (c .span-of .result) (omega arith) (d .0) (d .1) (c .span-of .ensures) in
-    (w .0, w .1, omega (arith, w .2, o .inv .1, length-set (a .least .now) (length (a .ids .now)) 0), omega (arith, w .2))
+    let w = span-within (writes (a .ids .now) (a .masks .now) (a .ids .now)) (o .i - 1) _ _ (c .span-of .result) (omega arith) (d .0) (d .1) (c .span-of .ensures) in (
+      w .0,
+      w .1,
+      omega (arith, w .2, o .inv .1, length-set (a .least .now) (length (a .ids .now)) 0),
+      omega (arith, w .2),
+      (λ z. plan-falls (writes (a .ids .now) (a .masks .now) (a .ids .now)) (o .i) (o .i - 1 + c .span-of .result - 1) (o .i - 1 + c .span-of .result) (o .least) (o .extra) (o .inv .4 (a .ids .now) refl .plan) (omega arith) (omega (arith, w .2)) (omega arith)),
+    )
 
 abbrev linked-at : tie.After-choose Inv-loop μ-loop → tie.After-linked2 Inv-loop μ-loop
 linked-at c = c .before .before .before
