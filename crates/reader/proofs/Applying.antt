@@ -15,6 +15,7 @@ use Rattle.words.specs.Commands.{headerAt, paramAt, whole, run, expand, command
 use Rattle.words.proofs.Laws.{commands-end, commands-step, run-done, run-next, join-none, join-more, full-more}
 use Rattle.registers.specs.State.{State}
 use Rattle.registers.specs.Applied.{put, apply, applyAll}
+use Rattle.reader.specs.Rest.{rest}
 
 pub apply-none : (s : State) → applyAll s [] ≡ s
 unfolding applyAll
@@ -62,3 +63,15 @@ module _ (l : List ℕ) (at : ℕ) where
       let p = and-true (whole l at) (full l (commands l (at + wordsOf h)))
       (sym (full-more l at (commands l (at + wordsOf h))) ∙ (rw (commands-step l at i) at f)) in
       (leb-true (at + wordsOf h) (length l) (p .0), p .1)
+
+-- A COMMAND: its first write, and then the rest
+module _ (l : List ℕ) (at : ℕ) where
+  pub expand-first : (s : State)
+      → applyAll s (expand l at)
+      ≡ applyAll (put s (idOf (headerAt l at)) (spread (maskOf (headerAt l at))) (getD l at 0)) (rest l at)
+  expand-first s =
+      let n : countOf (headerAt l at) + 1 - 1 ≡ countOf (headerAt l at) = omega arith in
+      rw n at (run-applies l at s (countOf (headerAt l at) + 1) 0 (idOf (headerAt l at)) (omega arith))
+
+  pub rest-none : (s : State) → countOf (headerAt l at) ≡ 0 → applyAll s (rest l at) ≡ s
+  rest-none s z = run-applied l at s (countOf (headerAt l at)) 1 (idOf (headerAt l at) + stepOf (headerAt l at)) (omega arith)

@@ -6,7 +6,7 @@ use Prim.Native.Nat.{ℕ, zero, suc, _+_, _-_, _≤_, _<_}
 use native.Mathlib.Omega.{arith}
 use lib.Dec.{eqb}
 use lib.ListN.{length}
-use borrow.Author.Tests.{eq-eqb, ne-eqb, le-leb, lt-leb, eqb-true, eqb-false}
+use borrow.Author.Tests.{eq-eqb, ne-eqb, le-leb, lt-leb, eqb-true}
 use Rattle.numbers.specs.Pick.{pick}
 use Rattle.numbers.specs.Answer.{Answer, answered, refused}
 use Rattle.words.specs.Header.{idOf, maskOf, countOf, stepOf, wordsOf}
@@ -14,12 +14,14 @@ use Rattle.words.specs.Writes.{Write, writing, faultOf}
 use Rattle.words.specs.Commands.{headerAt, paramAt, whole, run, expand, commands}
 use Rattle.words.proofs.Laws.{commands-end, commands-step, run-done, run-next, run-length}
 use Rattle.reader.specs.Verdict.{firstFault, commandFault, unlessFault, judge, verdict}
+use Rattle.reader.specs.Clear.{lastId, clear}
+use Rattle.reader.proofs.Clearing.{clear-fault}
 use Rattle.reader.proofs.Accepted.{judge-none, judge-more}
 
 -- A RUN OF WRITES
 
 -- what decides on a command is no more than its writes
-pub deciding-most : (b : Bool) (n : ℕ) → pick b 1 (n + 1) ≤ n + 1
+pub deciding-most : (b : Bool) (n : ℕ) → pick b 0 (n + 1) ≤ n + 1
 deciding-most true n = omega arith
 deciding-most false n = omega arith
 
@@ -59,20 +61,28 @@ module _ (l : List ℕ) (at : ℕ) where
       let d : i + stepOf h ≡ i = omega arith in
       run-good (suc n) k i (omega arith) z ∙ rw (e, d) (same-none n (k + 1) i s z)
 
-  same-all : (b : Bool) (n k i : ℕ) → eqb (faultOf i (maskOf h)) 0 ≡ b → stepOf h ≡ 0 → 0 < n
-      → firstFault (run l at n k i) ≡ firstFault (run l at 1 k i)
-  same-all true n k i b s p =
-      let z = eqb-true (faultOf i (maskOf h)) 0 b in same-none n k i s z ∙ sym (same-none 1 k i s z)
-  same-all false n k i b s p =
-      let z = eqb-false (faultOf i (maskOf h)) 0 b in run-bad n k i p z ∙ sym (run-bad 1 k i (omega arith) z)
+  -- writes to a clear range of ids, of which none is left out, are none at fault
+  rising-none : (j n k i f : ℕ) → clear f j (maskOf h) ≡ true → f ≤ i → i + n ≤ j + 1 → firstFault (run l at n k i) ≡ 0
+  rising-none j zero k i f c p q = run-none 0 k i (omega arith)
+  rising-none j (suc n) k i f c p q =
+      let e : suc n - 1 ≡ n = omega arith in
+      run-good (suc n) k i (omega arith) (clear-fault f j i (maskOf h) c p (omega arith))
+      ∙ rw e (rising-none j n (k + 1) (i + stepOf h) f c (omega arith) (omega arith))
 
-  by-step : (b : Bool) (n : ℕ) → eqb (stepOf h) 0 ≡ b → 0 < n
-      → firstFault (run l at n 0 (idOf h)) ≡ firstFault (run l at (pick b 1 n) 0 (idOf h))
-  by-step true n b p = same-all (eqb (faultOf (idOf h) (maskOf h)) 0) n 0 (idOf h) refl (eqb-true (stepOf h) 0 b) p
-  by-step false n b p = refl
+  clear-none : (b : Bool) → eqb (stepOf h) 0 ≡ b → clear (idOf h) (pick b (idOf h) (idOf h + countOf h)) (maskOf h) ≡ true
+      → firstFault (expand l at) ≡ 0
+  clear-none true b c =
+      same-none (countOf h + 1) 0 (idOf h) (eqb-true (stepOf h) 0 b) (clear-fault (idOf h) (idOf h) (idOf h) (maskOf h) c (omega arith) (omega arith))
+  clear-none false b c = rising-none (idOf h + countOf h) (countOf h + 1) 0 (idOf h) (idOf h) c (omega arith) (omega arith)
 
-  pub deciding-fault : firstFault (expand l at) ≡ firstFault (run l at (pick (eqb (stepOf h) 0) 1 (countOf h + 1)) 0 (idOf h))
-  deciding-fault = by-step (eqb (stepOf h) 0) (countOf h + 1) refl (omega arith)
+  by-clear : (b : Bool) → clear (idOf h) (lastId (idOf h) (countOf h) (stepOf h)) (maskOf h) ≡ b
+      → firstFault (expand l at) ≡ firstFault (run l at (pick b 0 (countOf h + 1)) 0 (idOf h))
+  by-clear true c = clear-none (eqb (stepOf h) 0) refl c ∙ sym (run-none 0 0 (idOf h) (omega arith))
+  by-clear false c = refl
+
+  pub deciding-fault : firstFault (expand l at)
+      ≡ firstFault (run l at (pick (clear (idOf h) (lastId (idOf h) (countOf h) (stepOf h)) (maskOf h)) 0 (countOf h + 1)) 0 (idOf h))
+  deciding-fault = by-clear _ refl
 
   -- A COMMAND
 

@@ -1,5 +1,7 @@
 pub mod Accepted
+pub mod Clearing
 pub mod Judging
 pub mod Applying
+pub mod Uploads
 pub mod Answers
 pub mod Once

@@ -1,2 +1,4 @@
+pub mod Clear
+pub mod Rest
 pub mod Verdict
 pub mod Read

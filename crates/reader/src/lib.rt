@@ -1,16 +1,19 @@
 // A list read into a state: judged whole, and then applied. The contracts cite specs/Verdict.antt and specs/Read.antt.
 ghost use mathlib.Core.Path.{_≡_};
-ghost use mathlib.Core.Bool.{true};
+ghost use mathlib.Core.Bool.{true, false};
 ghost use Prim.Native.Nat.{_+_, _≤_, _<_};
-ghost use lib.Dec.{eqb};
 ghost use lib.ListN.{length};
 ghost use Rattle.numbers.specs.Pick.{pick};
-ghost use Rattle.words.specs.Header.{wordsOf, stepOf};
+ghost use Rattle.words.specs.Header.{idOf, wordsOf, stepOf};
+ghost use Rattle.words.specs.Writes.{fogData, lightData};
 ghost use Rattle.words.specs.Commands.{headerAt, expand, expansion, wellFormed};
+ghost use Rattle.ports.specs.Ports.{named, lightTable};
 ghost use Rattle.registers.specs.State.{st};
 ghost use Rattle.registers.specs.Tables.{heldTable, slotTable};
 ghost use Rattle.registers.specs.Applied.{applyAll};
+ghost use Rattle.reader.specs.Rest.{rest};
 ghost use Rattle.reader.specs.Verdict.{verdict};
+ghost use Rattle.reader.specs.Clear.{lastId, clear};
 ghost use Rattle.reader.specs.Read.{told, readAnswer, readState};
 use words::Head;
 use words::Refusal;
@@ -20,12 +23,33 @@ pub enum Verdict {
     Refused(Refusal),
 }
 
-// How many of a command's writes decide on it: those to one id are at fault all or none.
-fn deciding(count: u32, step: u32) -> u32
-    requires { ⌜ count < 256 ⌝ }
-    ensures { λ r. ⌜ r ≡ pick (eqb step 0) 1 (count + 1) ⌝ }
+// The last id of a command with `count` extra parameters.
+fn last_id(id: u32, count: u32, step: u32) -> u32
+    requires { ⌜ (id < 0x10000) × (count < 256) ⌝ }
+    ensures { λ r. ⌜ r ≡ lastId id count step ⌝ }
 {
-    if step == 0 { 1 } else { count + 1 }
+    if step == 0 { id } else { id + count }
+}
+
+// No write to an id of first..last under `mask` can be at fault: the range ends below 300h and meets neither a jump register nor, but for mask Fh, a port's data.
+fn is_clear(first: u32, last: u32, mask: u32) -> bool
+    ensures { λ r. ⌜ r ≡ clear first last mask ⌝ }
+{
+    (last <= 0x2FF)
+        & ((last < 0x23C) | (0x23D < first))
+        & ((mask == 15) | ((last < 0xE8) | (0xEF < first)) & ((last < 0x1C8) | (0x1CF < first)))
+}
+
+// How many of a command's writes need a look: all of them where one can be at fault, and none else.
+fn deciding(id: u32, mask: u32, count: u32, step: u32) -> u32
+    requires { ⌜ (id < 0x10000) × (count < 256) ⌝ }
+    ensures { λ r. ⌜ r ≡ pick (clear id (lastId id count step) mask) 0 (count + 1) ⌝ }
+{
+    if is_clear(id, last_id(id, count, step), mask) {
+        0
+    } else {
+        count + 1
+    }
 }
 
 // The verdict on a list of any length: commands in order, each for its words and then for its writes.
@@ -45,7 +69,7 @@ pub fn judge_list(list: &[u32]) -> Verdict
             });
         };
         let mut id = h.id;
-        let mut left = deciding(h.count, h.step);
+        let mut left = deciding(h.id, h.mask, h.count, h.step);
         while 0 < left {
             let why = words::fault(id, h.mask);
             if why != 0 {
@@ -70,8 +94,8 @@ fn words_taken(h: u32) -> usize
     (2 + count + (2 + count) % 2) as usize
 }
 
-// The writes of the command at `at`, one after another.
-fn apply_command(
+// The writes after the first of the command at `at`, one after another.
+fn apply_rest(
     cells: &mut [u32],
     fog: &mut [u32],
     light: &mut [u32],
@@ -83,12 +107,11 @@ fn apply_command(
 )
     requires { ⌜ (length (now cells) ≡ 768) × (length (now fog) ≡ 128) × (length (now light) ≡ 6144) × (now slots ≡ slotTable) × (now held ≡ heldTable) ⌝ }
     requires { ⌜ (at + wordsOf (headerAt (now list) at) ≤ length (now list)) × (step ≡ stepOf (headerAt (now list) at)) ⌝ }
-    ensures { λ _. ⌜ st (now (cells .exit)) (now (fog .exit)) (now (light .exit)) ≡ applyAll (st (now (cells .entry)) (now (fog .entry)) (now (light .entry))) (expand (now (list .entry)) at) ⌝ }
+    ensures { λ _. ⌜ st (now (cells .exit)) (now (fog .exit)) (now (light .exit)) ≡ applyAll (st (now (cells .entry)) (now (fog .entry)) (now (light .entry))) (rest (now (list .entry)) at) ⌝ }
 {
     let h = list[at + 1];
     let bytes = ports::spread_mask(h / 0x10000 % 16);
     let mut id = h % 0x10000;
-    registers::put_one(cells, fog, light, slots, held, id, bytes, list[at]);
     let mut left = h / 0x100000 % 256;
     let mut j = at + 2;
     while 0 < left {
@@ -99,7 +122,46 @@ fn apply_command(
     }
 }
 
-// The command at `at`, for a step that is known: a command to one id looks its register up once.
+// The same for a command to the fog port's data: the index stands in its cell again when all is up.
+fn upload_fog(cells: &mut [u32], fog: &mut [u32], light: &mut [u32], list: &[u32], at: usize)
+    requires { ⌜ (length (now cells) ≡ 768) × (length (now fog) ≡ 128) × (length (now light) ≡ 6144) ⌝ }
+    requires { ⌜ (at + wordsOf (headerAt (now list) at) ≤ length (now list)) × (stepOf (headerAt (now list) at) ≡ 0) × (fogData (idOf (headerAt (now list) at)) ≡ true) ⌝ }
+    ensures { λ _. ⌜ st (now (cells .exit)) (now (fog .exit)) (now (light .exit)) ≡ applyAll (st (now (cells .entry)) (now (fog .entry)) (now (light .entry))) (rest (now (list .entry)) at) ⌝ }
+{
+    let x = cells[0xE6];
+    let mut i = ports::fog_index(x);
+    let mut left = list[at + 1] / 0x100000 % 256;
+    let mut j = at + 2;
+    while 0 < left {
+        fog[i] = ports::entered(fog[i], list[j]);
+        i = (i + 1) % 128;
+        j += 1;
+        left -= 1;
+    }
+    cells[0xE6] = ports::fog_at(x, i);
+}
+
+// The same for a command to the light port's data, while a named table is open.
+fn upload_light(cells: &mut [u32], fog: &mut [u32], light: &mut [u32], list: &[u32], at: usize)
+    requires { ⌜ (length (now cells) ≡ 768) × (length (now fog) ≡ 128) × (length (now light) ≡ 6144) × (named (lightTable (now cells)) ≡ true) ⌝ }
+    requires { ⌜ (at + wordsOf (headerAt (now list) at) ≤ length (now list)) × (stepOf (headerAt (now list) at) ≡ 0) × (fogData (idOf (headerAt (now list) at)) ≡ false) × (lightData (idOf (headerAt (now list) at)) ≡ true) ⌝ }
+    ensures { λ _. ⌜ st (now (cells .exit)) (now (fog .exit)) (now (light .exit)) ≡ applyAll (st (now (cells .entry)) (now (fog .entry)) (now (light .entry))) (rest (now (list .entry)) at) ⌝ }
+{
+    let x = cells[0x1C5];
+    let table = ports::light_table(x);
+    let mut i = ports::light_index(x);
+    let mut left = list[at + 1] / 0x100000 % 256;
+    let mut j = at + 2;
+    while 0 < left {
+        light[table + i] = ports::entered(light[table + i], list[j]);
+        i = (i + 1) % 256;
+        j += 1;
+        left -= 1;
+    }
+    cells[0x1C5] = ports::light_at(x, i);
+}
+
+// The command at `at`: its first write, and then the rest by what they are.
 fn apply_at(
     cells: &mut [u32],
     fog: &mut [u32],
@@ -110,15 +172,39 @@ fn apply_at(
     at: usize,
 )
     requires { ⌜ (length (now cells) ≡ 768) × (length (now fog) ≡ 128) × (length (now light) ≡ 6144) × (now slots ≡ slotTable) × (now held ≡ heldTable) ⌝ }
-    requires { ⌜ at + wordsOf (headerAt (now list) at) ≤ length (now list) ⌝ }
+    requires { ⌜ (at + wordsOf (headerAt (now list) at) ≤ length (now list)) ⌝ }
     ensures { λ _. ⌜ st (now (cells .exit)) (now (fog .exit)) (now (light .exit)) ≡ applyAll (st (now (cells .entry)) (now (fog .entry)) (now (light .entry))) (expand (now (list .entry)) at) ⌝ }
 {
-    let step = list[at + 1] / 0x80000000 % 2;
-    if step == 0 {
-        apply_command(cells, fog, light, slots, held, list, at, 0);
-    } else {
-        apply_command(cells, fog, light, slots, held, list, at, 1);
+    let h = list[at + 1];
+    let id = h % 0x10000;
+    registers::put_one(
+        cells,
+        fog,
+        light,
+        slots,
+        held,
+        id,
+        ports::spread_mask(h / 0x10000 % 16),
+        list[at],
+    );
+    if h / 0x100000 % 256 == 0 {
+        return;
     }
+    if h / 0x80000000 % 2 != 0 {
+        apply_rest(cells, fog, light, slots, held, list, at, 1);
+        return;
+    }
+    if (0xE8 <= id) & (id <= 0xEF) {
+        upload_fog(cells, fog, light, list, at);
+        return;
+    }
+    if (0x1C8 <= id) & (id <= 0x1CF) {
+        if ports::is_named(cells[0x1C5] / 256 % 32) {
+            upload_light(cells, fog, light, list, at);
+            return;
+        }
+    }
+    apply_rest(cells, fog, light, slots, held, list, at, 0);
 }
 
 // A well-formed list's expansion, one masked write after another.

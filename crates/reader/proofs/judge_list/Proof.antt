@@ -11,6 +11,7 @@ use Rattle.words.specs.Writes.{faultOf}
 use Rattle.words.specs.Commands.{headerAt, run, expand, commands}
 use Rattle.words.proofs.Heads.{Whole, whole-of, short-of}
 use Rattle.reader.specs.Verdict.{firstFault, judge, verdict}
+use Rattle.reader.specs.Clear.{lastId, clear}
 use Rattle.reader.proofs.Judging.{deciding-most, run-none, run-good, run-bad, deciding-fault, judge-end, judge-short, judge-fault, judge-pass, verdict-of}
 use Rattle.reader.proofs.judge_list.Statement.{statement}
 use Rattle.reader.proofs.judge_list.Tie as tie
@@ -71,8 +72,8 @@ loop-holds c =
     let at = at-commands .commands .at in
     let h = at-h .h .given .0 .0 in
     let z : c .deciding .result - c .deciding .result ≡ 0 = omega arith in
-    let m : c .deciding .result ≤ h .count + 1 = rw d (deciding-most (eqb (h .step) 0) (h .count)) in
-    (m, omega arith, rw (z, d, w .step, w .count, w .id) (sym (deciding-fault l at)), omega arith)
+    let m : c .deciding .result ≤ h .count + 1 = rw d (deciding-most (clear (h .id) (lastId (h .id) (h .count) (h .step)) (h .mask)) (h .count)) in
+    (m, omega arith, rw (z, d, w .step, w .count, w .id, w .mask) (sym (deciding-fault l at)), omega arith)
 
 -- src/lib.rt:54:17
 fault-requires : tie.Need-fault-requires Inv-loop μ-loop Inv-commands μ-commands
