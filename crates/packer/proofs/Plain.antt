@@ -1,6 +1,6 @@
 -- A write of all four bytes to an id below the jump registers isn't refused. Assumes nothing.
-use mathlib.Core.Path.{_≡_, refl, sym, _∙_}
-use mathlib.Core.Bool.{Bool, true, false, not, _&&_}
+use mathlib.Core.Path.{_≡_}
+use mathlib.Core.Bool.{true, _&&_, and-false}
 use Prim.Native.Nat.{ℕ, _<_}
 use native.Mathlib.Omega.{arith}
 use lib.Dec.{eqb, ltb}
@@ -8,10 +8,6 @@ use borrow.Author.Tests.{eqb-true, eq-eqb, ne-eqb, ltb-true, le-ltb}
 use Rattle.numbers.proofs.Tests.{and-true}
 use Rattle.words.specs.Writes.{portData, faultOf}
 use Rattle.packer.specs.Given.{wrong}
-
-whole : (p : Bool) → (p && false) ≡ false
-whole true = refl
-whole false = refl
 
 pub plain-right : (i m : ℕ) → (eqb m 15 && ltb i 0x23C) ≡ true → 0 ≡ wrong i m
 unfolding faultOf
@@ -25,5 +21,5 @@ plain-right i m t =
       ne-eqb i 0x23C (λ z. omega arith),
       ne-eqb i 0x23D (λ z. omega arith),
       u .0,
-      whole (portData i),
+      and-false (portData i),
     )

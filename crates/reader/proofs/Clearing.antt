@@ -1,6 +1,6 @@
 -- A command whose ids are clear of all that is refused has no write at fault. Assumes nothing.
 use mathlib.Core.Path.{_≡_, refl, sym, _∙_}
-use mathlib.Core.Bool.{Bool, true, false, not, _&&_, _||_, false≢true}
+use mathlib.Core.Bool.{Bool, true, false, not, _&&_, _||_, and-false}
 use Prim.Native.Nat.{ℕ, zero, suc, _+_, _≤_, _<_}
 use native.Mathlib.Omega.{arith}
 use lib.Dec.{leb, ltb, eqb}
@@ -10,14 +10,10 @@ use Rattle.numbers.proofs.Tests.{and-true}
 use Rattle.words.specs.Writes.{jumps, portData, faultOf}
 use Rattle.reader.specs.Clear.{clear}
 
-masked : (p : Bool) → (p && false) ≡ false
-masked true = refl
-masked false = refl
-
 -- a range that ends below lo or starts above hi has no id of lo..hi
 apart : (b : Bool) (i j k lo hi : ℕ) → ltb j lo ≡ b → (b || ltb hi i) ≡ true → i ≤ k → k ≤ j → within lo hi k ≡ false
 apart true i j k lo hi e t p q = let h : j < lo = ltb-true j lo e in rw (lt-leb lo k (omega arith))
-apart false i j k lo hi e t p q = let h : hi < i = ltb-true hi i t in rw (lt-leb k hi (omega arith)) (masked (leb lo k))
+apart false i j k lo hi e t p q = let h : hi < i = ltb-true hi i t in rw (lt-leb k hi (omega arith)) (and-false (leb lo k))
 
 no-jump : (b : Bool) (i j k : ℕ) → ltb j 0x23C ≡ b → (b || ltb 0x23D i) ≡ true → i ≤ k → k ≤ j → jumps k ≡ false
 no-jump true i j k e t p q =
@@ -27,7 +23,7 @@ no-jump false i j k e t p q =
 
 no-port : (b : Bool) (i j k m : ℕ) → eqb m 15 ≡ b
     → (b || ((ltb j 0xE8 || ltb 0xEF i) && (ltb j 0x1C8 || ltb 0x1CF i))) ≡ true → i ≤ k → k ≤ j → (portData k && not b) ≡ false
-no-port true i j k m e t p q = masked (portData k)
+no-port true i j k m e t p q = and-false (portData k)
 no-port false i j k m e t p q =
     let u = and-true (ltb j 0xE8 || ltb 0xEF i) (ltb j 0x1C8 || ltb 0x1CF i) t in
     rw (apart (ltb j 0xE8) i j k 0xE8 0xEF refl (u .0) p q, apart (ltb j 0x1C8) i j k 0x1C8 0x1CF refl (u .1) p q)

@@ -1,85 +1,144 @@
--- A command to a port's data, with the index kept apart: the cells are those that hold the index by now. Assumes nothing.
-use mathlib.Core.Path.{_≡_, refl, sym, _∙_}
-use mathlib.Core.Bool.{true, false}
+-- The writes of a command to a port's data leave what an upload leaves. Assumes nothing.
+use mathlib.Core.Path.{_≡_, refl, sym, ap, _∙_}
+use mathlib.Core.Bool.{Bool, true, false, _&&_, and-false}
 use mathlib.Core.List.{List}
-use Prim.Native.Nat.{ℕ, _+_, _-_, _*_, _/_, _%_, _≤_, _<_}
+use Prim.Native.Nat.{ℕ, zero, suc, _+_, _-_, _*_, _/_, _%_, _≤_, _<_}
+use native.Mathlib.Decide.{decLt}
 use native.Mathlib.Omega.{arith}
-use lib.ListN.{length, getD, set}
+use lib.Dec.{leb, eqb}
+use lib.ListN.{length, getD, set, length-set}
 use lib.Seq.{getD-set-same, set-set, set-getD}
+use borrow.Author.Tests.{leb-true, lt-leb, eqb-true}
 use Rattle.numbers.specs.Bits.{spread}
+use Rattle.numbers.specs.Pick.{pick}
+use Rattle.numbers.proofs.Tests.{and-true}
 use Rattle.words.specs.Header.{idOf, maskOf, countOf, stepOf}
 use Rattle.words.specs.Writes.{fogData, lightData}
-use Rattle.words.specs.Commands.{headerAt, paramAt, run}
-use Rattle.ports.specs.Ports.{entry, named, fogCells, fogEntries, lightCells, lightEntries}
+use Rattle.words.specs.Commands.{headerAt, run, expand}
+use Rattle.ports.specs.Ports.{named, rise, lightTable, lightIndex, fogCells, fogEntries, lightCells, lightEntries}
+use Rattle.ports.specs.Uploads.{withEntry, wrapped, uploaded, risen, fogCellsAfter, fogUploaded, lightCellsAfter, lightUploaded}
+use Rattle.ports.proofs.Uploads.{wrapped-inside, wrapped-end, uploaded-done, uploaded-next}
 use Rattle.registers.specs.State.{State, st}
 use Rattle.registers.specs.Applied.{put, applyAll}
 use Rattle.registers.proofs.Puts.{put-fog-data, put-light-data}
-use Rattle.reader.specs.Rest.{rest}
-use Rattle.reader.proofs.Applying.{run-applies}
+use Rattle.reader.proofs.Applying.{run-applied, run-applies, param-later, expand-first}
 
--- ONE WRITE, where the index cell holds i and x's other bits
-module _ (cells fog light : List ℕ) (id e v x i : ℕ) where
-  fog-put : fogData id ≡ true → 0xE6 < length cells → i < 128
-      → put (st (set cells 0xE6 (x / 128 * 128 + i)) fog light) id e v
-      ≡ st (set cells 0xE6 (x / 128 * 128 + (i + 1) % 128)) (set fog i (entry (getD fog i 0) v)) light
-  unfolding fogCells fogEntries
-  fog-put f n b =
-      let y = x / 128 * 128 + i in
-      let q : y % 128 ≡ i = omega arith in
-      let r : y / 128 * 128 ≡ x / 128 * 128 = omega arith in
-      put-fog-data (st (set cells 0xE6 y) fog light) id e v f ∙ rw (getD-set-same cells 0xE6 y 0 n, set-set cells 0xE6 y, q, r)
+-- THE INDEX
 
-  light-put : fogData id ≡ false → lightData id ≡ true → named (x / 256 % 32) ≡ true → 0x1C5 < length cells → i < 256
-      → put (st (set cells 0x1C5 (x / 256 * 256 + i)) fog light) id e v
-      ≡ st (set cells 0x1C5 (x / 256 * 256 + (i + 1) % 256)) fog
-      (set light (x / 256 % 32 * 256 + i) (entry (getD light (x / 256 % 32 * 256 + i) 0) v))
-  unfolding lightCells lightEntries
-  light-put f g t n b =
-      let y = x / 256 * 256 + i in
-      let q : y % 256 ≡ i = omega arith in
-      let r : y / 256 ≡ x / 256 = omega arith in
-      put-light-data (st (set cells 0x1C5 y) fog light) id e v f g ∙ rw (getD-set-same cells 0x1C5 y 0 n, set-set cells 0x1C5 y, q, r, t)
+-- it rises by one, and from its last value to 0
+fog-index : (x : ℕ) → Dec (x % 128 + 1 < 128) → wrapped 128 (x % 128 + 1) ≡ rise 128 x % 128
+fog-index x (yes t) = wrapped-inside 128 (x % 128 + 1) t ∙ omega arith
+fog-index x (no t) = wrapped-end 128 (x % 128 + 1) (omega arith) ∙ omega arith
+
+light-index : (x : ℕ) → Dec (x % 256 + 1 < 256) → wrapped 256 (x % 256 + 1) ≡ rise 256 x % 256
+light-index x (yes t) = wrapped-inside 256 (x % 256 + 1) t ∙ omega arith
+light-index x (no t) = wrapped-end 256 (x % 256 + 1) (omega arith) ∙ omega arith
+
+-- no id is both ports' data
+light-only : (i : ℕ) → lightData i ≡ true → fogData i ≡ false
+light-only i g =
+    let b : 0x1C8 ≤ i = leb-true 0x1C8 i (and-true (leb 0x1C8 i) (leb i 0x1CF) g .0) in
+    rw (lt-leb i 0xEF (omega arith)) (and-false (leb 0xE8 i))
+
+pick-same : {A : Type 0} (b : Bool) (a : A) → pick b a a ≡ a
+pick-same true a = refl
+pick-same false a = refl
+
+pick-inside : {A : Type 0} (b : Bool) (f : A → A) (u v : A) → pick b (f (pick b u v)) (pick b u v) ≡ pick b (f u) v
+pick-inside true f u v = refl
+pick-inside false f u v = refl
 
 -- THE WRITES OF A COMMAND TO ONE ID
 module _ (l : List ℕ) (at : ℕ) (one : stepOf (headerAt l at) ≡ 0) where
+  run-same : (s : State) (n k i : ℕ) (j : ℕ) → 0 < k → j ≡ at + 1 + k
+      → applyAll s (run l at (suc n) k i) ≡ applyAll (put s i (spread (maskOf (headerAt l at))) (getD l j 0)) (run l at n (k + 1) i)
+  run-same s n k i j p e =
+      let d : i + stepOf (headerAt l at) ≡ i = omega arith in
+      let m : suc n - 1 ≡ n = omega arith in
+      run-applies l at s (suc n) k i (omega arith) ∙ rw (d, m, param-later l at k j p e)
+
+  -- FOG
+  pub fog-run : (n k j i : ℕ) (cells fog light : List ℕ) → fogData i ≡ true → 0xE6 < length cells → 0 < k → j ≡ at + 1 + k
+      → applyAll (st cells fog light) (run l at n k i) ≡ st (fogCellsAfter cells n) (fogUploaded cells fog l j n) light
+  unfolding fogCells fogEntries
+  fog-run zero k j i cells fog light f h p e =
+      let x = getD cells 0xE6 0 in
+      let r : risen 128 x 0 ≡ x = omega arith in
+      run-applied l at (st cells fog light) 0 k i (omega arith)
+      ∙ rw (r, set-getD cells 0xE6 0, uploaded-done 128 0 (x % 128) fog l j 0 (omega arith))
+  fog-run (suc n) k j i cells fog light f h p e =
+      let x = getD cells 0xE6 0 in
+      let y = rise 128 x in
+      let r : risen 128 y n ≡ risen 128 x (suc n) = omega arith in
+      let z : 0 + x % 128 ≡ x % 128 = omega arith in
+      let m : suc n - 1 ≡ n = omega arith in
+      let b : 0xE6 < length (fogCells cells) = simp length-set h in
+      run-same (st cells fog light) n k i j p e
+      ∙ rw (put-fog-data (st cells fog light) i (spread (maskOf (headerAt l at))) (getD l j 0) f)
+      (fog-run n (k + 1) (j + 1) i (fogCells cells) (fogEntries cells fog (getD l j 0)) light f b (omega arith) (omega arith)
+      ∙ rw (getD-set-same cells 0xE6 y 0 h, set-set cells 0xE6 y, r, uploaded-next 128 0 (x % 128) fog l j (suc n) (omega arith), m, z, fog-index x (decLt (x % 128 + 1) 128)))
+
+  -- LIGHT, by whether the open table is named
+  light-by : (b : Bool) (n k j i : ℕ) (cells fog light : List ℕ) → named (lightTable cells) ≡ b → lightData i ≡ true → 0x1C5 < length cells
+      → 0 < k → j ≡ at + 1 + k
+      → applyAll (st cells fog light) (run l at n k i)
+      ≡ st (lightCellsAfter cells n) fog (pick b (uploaded 256 (lightTable cells * 256) (lightIndex cells) light l j n) light)
+  unfolding lightCells lightEntries
+  light-by b zero k j i cells fog light d g h p e =
+      let x = getD cells 0x1C5 0 in
+      let r : risen 256 x 0 ≡ x = omega arith in
+      run-applied l at (st cells fog light) 0 k i (omega arith)
+      ∙ rw (r, set-getD cells 0x1C5 0, uploaded-done 256 (x / 256 % 32 * 256) (x % 256) light l j 0 (omega arith), pick-same b light)
+  light-by b (suc n) k j i cells fog light d g h p e =
+      let x = getD cells 0x1C5 0 in
+      let y = rise 256 x in
+      let r : risen 256 y n ≡ risen 256 x (suc n) = omega arith in
+      let q : y / 256 ≡ x / 256 = omega arith in
+      let m : suc n - 1 ≡ n = omega arith in
+      let s : 0x1C5 < length (lightCells cells) = simp length-set h in
+      let v : named (lightTable (lightCells cells)) ≡ b = rw (getD-set-same cells 0x1C5 y 0 h, q) d in
+      run-same (st cells fog light) n k i j p e
+      ∙ rw (put-light-data (st cells fog light) i (spread (maskOf (headerAt l at))) (getD l j 0) (light-only i g) g)
+      (light-by b n (k + 1) (j + 1) i (lightCells cells) fog (lightEntries cells light (getD l j 0)) v g s (omega arith) (omega arith)
+      ∙ rw (
+        getD-set-same cells 0x1C5 y 0 h,
+        set-set cells 0x1C5 y,
+        r,
+        q,
+        d,
+        uploaded-next 256 (x / 256 % 32 * 256) (x % 256) light l j (suc n) (omega arith),
+        m,
+        light-index x (decLt (x % 256 + 1) 256),
+      )
+      (ap (λ (z : List ℕ). st (lightCellsAfter cells (suc n)) fog z)
+      (pick-inside b (λ es. uploaded 256 (x / 256 % 32 * 256) (y % 256) es l (j + 1) n) (withEntry light (x / 256 % 32 * 256 + x % 256) l j) light)))
+
+  pub light-run : (n k j i : ℕ) (cells fog light : List ℕ) → lightData i ≡ true → 0x1C5 < length cells → 0 < k → j ≡ at + 1 + k
+      → applyAll (st cells fog light) (run l at n k i) ≡ st (lightCellsAfter cells n) fog (lightUploaded cells light l j n)
+  light-run n k j i cells fog light g h p e = light-by (named (lightTable cells)) n k j i cells fog light refl g h p e
+
+-- A COMMAND TO A PORT'S DATA: after its first write, an upload of the rest
+module _ (l : List ℕ) (at : ℕ) (s : State) (cells fog light : List ℕ) where
   abbrev h : ℕ
   h = headerAt l at
 
-  pub run-same : (s : State) (n k i : ℕ) → 0 < n
-      → applyAll s (run l at n k i) ≡ applyAll (put s i (spread (maskOf h)) (paramAt l at k)) (run l at (n - 1) (k + 1) i)
-  run-same s n k i p =
-      let d : i + stepOf h ≡ i = omega arith in run-applies l at s n k i p ∙ rw d
+  to-rest : st cells fog light ≡ put s (idOf h) (spread (maskOf h)) (getD l at 0) → stepOf h ≡ 0 → applyAll (st cells fog light) (run l at (countOf h) 1 (idOf h)) ≡ applyAll s (expand l at)
+  to-rest e one =
+      let d : idOf h + stepOf h ≡ idOf h = omega arith in
+      rw e (rw d at (sym (expand-first l at s)))
 
-  pub rest-same : rest l at ≡ run l at (countOf h) 1 (idOf h)
-  rest-same = let d : idOf h + stepOf h ≡ idOf h = omega arith in rw d
+  pub fog-command : st cells fog light ≡ put s (idOf h) (spread (maskOf h)) (getD l at 0)
+      → (eqb (stepOf h) 0 && fogData (idOf h)) ≡ true → 0xE6 < length cells
+      → st (fogCellsAfter cells (countOf h)) (fogUploaded cells fog l (at + 2) (countOf h)) light ≡ applyAll s (expand l at)
+  fog-command e t b =
+      let u = and-true (eqb (stepOf h) 0) (fogData (idOf h)) t in
+      let one = eqb-true (stepOf h) 0 (u .0) in
+      sym (fog-run l at one (countOf h) 1 (at + 2) (idOf h) cells fog light (u .1) b (omega arith) (omega arith)) ∙ to-rest e one
 
-  -- before the first of them the index is that of its cell
-  pub fog-start : (cells fog light : List ℕ) (i : ℕ) → i ≡ getD cells 0xE6 0 % 128
-      → applyAll (st (set cells 0xE6 (getD cells 0xE6 0 / 128 * 128 + i)) fog light) (run l at (countOf h) 1 (idOf h))
-      ≡ applyAll (st cells fog light) (rest l at)
-  fog-start cells fog light i z =
-      let e : getD cells 0xE6 0 / 128 * 128 + i ≡ getD cells 0xE6 0 = omega arith in rw (rest-same, e, set-getD cells 0xE6 0)
-
-  pub light-start : (cells fog light : List ℕ) (i : ℕ) → i ≡ getD cells 0x1C5 0 % 256
-      → applyAll (st (set cells 0x1C5 (getD cells 0x1C5 0 / 256 * 256 + i)) fog light) (run l at (countOf h) 1 (idOf h))
-      ≡ applyAll (st cells fog light) (rest l at)
-  light-start cells fog light i z =
-      let e : getD cells 0x1C5 0 / 256 * 256 + i ≡ getD cells 0x1C5 0 = omega arith in rw (rest-same, e, set-getD cells 0x1C5 0)
-
-  pub fog-next : (cells fog light : List ℕ) (x i n k : ℕ) → fogData (idOf h) ≡ true → 0xE6 < length cells → i < 128 → 0 < n
-      → applyAll (st (set cells 0xE6 (x / 128 * 128 + i)) fog light) (run l at n k (idOf h))
-      ≡ applyAll (st (set cells 0xE6 (x / 128 * 128 + (i + 1) % 128)) (set fog i (entry (getD fog i 0) (paramAt l at k))) light)
-      (run l at (n - 1) (k + 1) (idOf h))
-  fog-next cells fog light x i n k f s b p =
-      run-same (st (set cells 0xE6 (x / 128 * 128 + i)) fog light) n k (idOf h) p
-      ∙ rw (fog-put cells fog light (idOf h) (spread (maskOf h)) (paramAt l at k) x i f s b)
-
-  pub light-next : (cells fog light : List ℕ) (x i n k : ℕ) → fogData (idOf h) ≡ false → lightData (idOf h) ≡ true
-      → named (x / 256 % 32) ≡ true → 0x1C5 < length cells → i < 256 → 0 < n
-      → applyAll (st (set cells 0x1C5 (x / 256 * 256 + i)) fog light) (run l at n k (idOf h))
-      ≡ applyAll (st (set cells 0x1C5 (x / 256 * 256 + (i + 1) % 256)) fog
-      (set light (x / 256 % 32 * 256 + i) (entry (getD light (x / 256 % 32 * 256 + i) 0) (paramAt l at k))))
-      (run l at (n - 1) (k + 1) (idOf h))
-  light-next cells fog light x i n k f g t s b p =
-      run-same (st (set cells 0x1C5 (x / 256 * 256 + i)) fog light) n k (idOf h) p
-      ∙ rw (light-put cells fog light (idOf h) (spread (maskOf h)) (paramAt l at k) x i f g t s b)
+  pub light-command : st cells fog light ≡ put s (idOf h) (spread (maskOf h)) (getD l at 0)
+      → (eqb (stepOf h) 0 && lightData (idOf h)) ≡ true → 0x1C5 < length cells
+      → st (lightCellsAfter cells (countOf h)) fog (lightUploaded cells light l (at + 2) (countOf h)) ≡ applyAll s (expand l at)
+  light-command e t b =
+      let u = and-true (eqb (stepOf h) 0) (lightData (idOf h)) t in
+      let one = eqb-true (stepOf h) 0 (u .0) in
+      sym (light-run l at one (countOf h) 1 (at + 2) (idOf h) cells fog light (u .1) b (omega arith) (omega arith)) ∙ to-rest e one

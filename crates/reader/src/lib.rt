@@ -1,13 +1,11 @@
 // A list read into a state: judged whole, and then applied. The contracts cite specs/Verdict.antt and specs/Read.antt.
 ghost use mathlib.Core.Path.{_≡_};
-ghost use mathlib.Core.Bool.{true, false};
+ghost use mathlib.Core.Bool.{true};
 ghost use Prim.Native.Nat.{_+_, _≤_, _<_};
 ghost use lib.ListN.{length};
 ghost use Rattle.numbers.specs.Pick.{pick};
-ghost use Rattle.words.specs.Header.{idOf, wordsOf, stepOf};
-ghost use Rattle.words.specs.Writes.{fogData, lightData};
+ghost use Rattle.words.specs.Header.{wordsOf};
 ghost use Rattle.words.specs.Commands.{headerAt, expand, expansion, wellFormed};
-ghost use Rattle.ports.specs.Ports.{named, lightTable};
 ghost use Rattle.registers.specs.State.{st};
 ghost use Rattle.registers.specs.Tables.{heldTable, slotTable};
 ghost use Rattle.registers.specs.Applied.{applyAll};
@@ -103,14 +101,14 @@ fn apply_rest(
     held: &[u32; 132],
     list: &[u32],
     at: usize,
-    step: u32,
 )
     requires { ⌜ (length (now cells) ≡ 768) × (length (now fog) ≡ 128) × (length (now light) ≡ 6144) × (now slots ≡ slotTable) × (now held ≡ heldTable) ⌝ }
-    requires { ⌜ (at + wordsOf (headerAt (now list) at) ≤ length (now list)) × (step ≡ stepOf (headerAt (now list) at)) ⌝ }
+    requires { ⌜ at + wordsOf (headerAt (now list) at) ≤ length (now list) ⌝ }
     ensures { λ _. ⌜ st (now (cells .exit)) (now (fog .exit)) (now (light .exit)) ≡ applyAll (st (now (cells .entry)) (now (fog .entry)) (now (light .entry))) (rest (now (list .entry)) at) ⌝ }
 {
     let h = list[at + 1];
     let bytes = ports::spread_mask(h / 0x10000 % 16);
+    let step = h / 0x80000000 % 2;
     let mut id = h % 0x10000;
     let mut left = h / 0x100000 % 256;
     let mut j = at + 2;
@@ -120,45 +118,6 @@ fn apply_rest(
         j += 1;
         left -= 1;
     }
-}
-
-// The same for a command to the fog port's data: the index stands in its cell again when all is up.
-fn upload_fog(cells: &mut [u32], fog: &mut [u32], light: &mut [u32], list: &[u32], at: usize)
-    requires { ⌜ (length (now cells) ≡ 768) × (length (now fog) ≡ 128) × (length (now light) ≡ 6144) ⌝ }
-    requires { ⌜ (at + wordsOf (headerAt (now list) at) ≤ length (now list)) × (stepOf (headerAt (now list) at) ≡ 0) × (fogData (idOf (headerAt (now list) at)) ≡ true) ⌝ }
-    ensures { λ _. ⌜ st (now (cells .exit)) (now (fog .exit)) (now (light .exit)) ≡ applyAll (st (now (cells .entry)) (now (fog .entry)) (now (light .entry))) (rest (now (list .entry)) at) ⌝ }
-{
-    let x = cells[0xE6];
-    let mut i = ports::fog_index(x);
-    let mut left = list[at + 1] / 0x100000 % 256;
-    let mut j = at + 2;
-    while 0 < left {
-        fog[i] = ports::entered(fog[i], list[j]);
-        i = (i + 1) % 128;
-        j += 1;
-        left -= 1;
-    }
-    cells[0xE6] = ports::fog_at(x, i);
-}
-
-// The same for a command to the light port's data, while a named table is open.
-fn upload_light(cells: &mut [u32], fog: &mut [u32], light: &mut [u32], list: &[u32], at: usize)
-    requires { ⌜ (length (now cells) ≡ 768) × (length (now fog) ≡ 128) × (length (now light) ≡ 6144) × (named (lightTable (now cells)) ≡ true) ⌝ }
-    requires { ⌜ (at + wordsOf (headerAt (now list) at) ≤ length (now list)) × (stepOf (headerAt (now list) at) ≡ 0) × (fogData (idOf (headerAt (now list) at)) ≡ false) × (lightData (idOf (headerAt (now list) at)) ≡ true) ⌝ }
-    ensures { λ _. ⌜ st (now (cells .exit)) (now (fog .exit)) (now (light .exit)) ≡ applyAll (st (now (cells .entry)) (now (fog .entry)) (now (light .entry))) (rest (now (list .entry)) at) ⌝ }
-{
-    let x = cells[0x1C5];
-    let table = ports::light_table(x);
-    let mut i = ports::light_index(x);
-    let mut left = list[at + 1] / 0x100000 % 256;
-    let mut j = at + 2;
-    while 0 < left {
-        light[table + i] = ports::entered(light[table + i], list[j]);
-        i = (i + 1) % 256;
-        j += 1;
-        left -= 1;
-    }
-    cells[0x1C5] = ports::light_at(x, i);
 }
 
 // The command at `at`: its first write, and then the rest by what they are.
@@ -172,7 +131,7 @@ fn apply_at(
     at: usize,
 )
     requires { ⌜ (length (now cells) ≡ 768) × (length (now fog) ≡ 128) × (length (now light) ≡ 6144) × (now slots ≡ slotTable) × (now held ≡ heldTable) ⌝ }
-    requires { ⌜ (at + wordsOf (headerAt (now list) at) ≤ length (now list)) ⌝ }
+    requires { ⌜ at + wordsOf (headerAt (now list) at) ≤ length (now list) ⌝ }
     ensures { λ _. ⌜ st (now (cells .exit)) (now (fog .exit)) (now (light .exit)) ≡ applyAll (st (now (cells .entry)) (now (fog .entry)) (now (light .entry))) (expand (now (list .entry)) at) ⌝ }
 {
     let h = list[at + 1];
@@ -187,24 +146,20 @@ fn apply_at(
         ports::spread_mask(h / 0x10000 % 16),
         list[at],
     );
-    if h / 0x100000 % 256 == 0 {
+    let count = h / 0x100000 % 256;
+    let step = h / 0x80000000 % 2;
+    if count == 0 {
         return;
     }
-    if h / 0x80000000 % 2 != 0 {
-        apply_rest(cells, fog, light, slots, held, list, at, 1);
+    if (step == 0) & ((0xE8 <= id) & (id <= 0xEF)) {
+        ports::upload_fog(cells, fog, list, at + 2, count);
         return;
     }
-    if (0xE8 <= id) & (id <= 0xEF) {
-        upload_fog(cells, fog, light, list, at);
+    if (step == 0) & ((0x1C8 <= id) & (id <= 0x1CF)) {
+        ports::upload_light(cells, light, list, at + 2, count);
         return;
     }
-    if (0x1C8 <= id) & (id <= 0x1CF) {
-        if ports::is_named(cells[0x1C5] / 256 % 32) {
-            upload_light(cells, fog, light, list, at);
-            return;
-        }
-    }
-    apply_rest(cells, fog, light, slots, held, list, at, 0);
+    apply_rest(cells, fog, light, slots, held, list, at);
 }
 
 // A well-formed list's expansion, one masked write after another.

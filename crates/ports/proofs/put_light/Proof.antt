@@ -1,4 +1,5 @@
 -- Assumes nothing.
+use mathlib.Core.Path.{sym, _∙_}
 use Prim.Native.Nat.{_<_, _/_, _%_}
 use lib.ListN.{getD}
 use native.Mathlib.Omega.{arith}
@@ -17,6 +18,9 @@ risen256-requires c κs = search needs
 slice-write-cells : tie.Need-slice-write-cells
 slice-write-cells c = search needs
 
+is-named-requires : tie.Need-is-named-requires
+is-named-requires c κs = search needs
+
 mul-i : tie.Need-mul-i
 mul-i c = search needs
 
@@ -31,7 +35,7 @@ mul-entered c = search needs
 
 slice-read-entered : tie.Need-slice-read-entered
 slice-read-entered c =
-    let t : getD (c .before .before .before .before .before .before .args .cells .now) 0x1C5 0 / 256 % 32 < 0x18 = named-small _ (c .before .if1 .taken) in omega arith
+    let t : getD (c .before .before .before .before .before .before .before .args .cells .now) 0x1C5 0 / 256 % 32 < 0x18 = named-small _ (sym (c .before .before .is-named .ensures) ∙ c .before .if1 .taken) in omega arith
 
 entered-requires : tie.Need-entered-requires
 entered-requires c κs = search needs
@@ -41,7 +45,7 @@ mul-light c = search needs
 
 slice-write-light : tie.Need-slice-write-light
 slice-write-light c =
-    let t : getD (c .before .before .before .before .before .before .before .args .cells .now) 0x1C5 0 / 256 % 32 < 0x18 = named-small _ (c .before .before .if1 .taken) in omega arith
+    let t : getD (c .before .before .before .before .before .before .before .before .args .cells .now) 0x1C5 0 / 256 % 32 < 0x18 = named-small _ (sym (c .before .before .before .is-named .ensures) ∙ c .before .before .if1 .taken) in omega arith
 
 same-length : tie.Need-same-length
 same-length c = search needs
@@ -52,7 +56,7 @@ same-length-2 c = search needs
 returns : tie.Need-returns
 unfolding lightCells lightEntries
 returns c =
-    (cc, rw (c .before .before .if1 .taken) (cc))
+    (cc, rw (sym (c .before .before .before .is-named .ensures) ∙ c .before .before .if1 .taken) (cc))
 
 same-length-3 : tie.Need-same-length-3
 same-length-3 c = search needs
@@ -60,7 +64,7 @@ same-length-3 c = search needs
 returns-2 : tie.Need-returns-2
 unfolding lightCells lightEntries
 returns-2 c =
-    (cc, rw (c .if1 .left))
+    (cc, rw (sym (c .before .is-named .ensures) ∙ c .if1 .left))
 
 pub put-light-spec : {M : Type 1} → statement M
 put-light-spec =
@@ -69,6 +73,7 @@ put-light-spec =
     slice-read-x
     risen256-requires
     slice-write-cells
+    is-named-requires
     mul-i
     add-i
     cast-i

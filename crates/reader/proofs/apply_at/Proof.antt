@@ -1,15 +1,12 @@
 -- The first write, and then the rest by what they are: each way out is one call more. Assumes nothing.
-use mathlib.Core.Path.{_≡_, refl, sym, _∙_}
-use mathlib.Core.Bool.{true}
-use Prim.Native.Nat.{_+_, _-_, _≤_, _<_}
+use mathlib.Core.Path.{_≡_, sym, _∙_}
+use Prim.Native.Nat.{_+_, _<_}
 use native.Mathlib.Omega.{arith}
-use borrow.Author.Needs.{needs}
 use lib.ListN.{length}
-use Rattle.words.specs.Header.{stepOf}
-use Rattle.words.specs.Commands.{headerAt}
 use Rattle.registers.specs.State.{st}
-use Rattle.ports.specs.Ports.{named, lightTable}
 use Rattle.reader.proofs.Applying.{expand-first, rest-none}
+use Rattle.reader.proofs.Uploads.{fog-command, light-command}
+use borrow.Author.Needs.{needs}
 use Rattle.reader.proofs.apply_at.Statement.{statement}
 use Rattle.reader.proofs.apply_at.Tie as tie
 
@@ -45,16 +42,15 @@ same-length-3 c = search needs
 
 returns : tie.Need-returns
 returns c =
-    let a = c .before .before .before .before .before .before .before .before .before .before .before .before .before .before .before .before .before .before in
-    rw (c .before .before .before .before .before .before .before .put-one .ensures, c .before .before .before .before .before .before .before .before .before .spread-mask .ensures, expand-first (a .args .list .now) (a .args .at) (st (a .args .cells .now) (a .args .fog .now) (a .args .light .now)))
-    (sym (rest-none (a .args .list .now) (a .args .at) _ (c .if1 .taken)))
+    let a = c .before .before .before .before .before .before .before .before .before .before .before .before .before .before .before .before .before .before .args in
+    rw (c .before .before .before .before .before .before .before .put-one .ensures, c .before .before .before .before .before .before .before .before .before .spread-mask .ensures, expand-first (a .list .now) (a .at) (st (a .cells .now) (a .fog .now) (a .light .now)))
+    (sym (rest-none (a .list .now) (a .at) _ (c .if1 .taken)))
 
-apply-rest-requires : tie.Need-apply-rest-requires
-apply-rest-requires c κs =
-    let a = c .before .before .before .before .before .before .before .before .before .before .before .before .before .before .before .before .before .before .before .before .before .before in
-    let p = c .before .before .before .before .before .before .before .before .before .before .before .put-one in
-    let s : 1 ≡ stepOf (headerAt (a .args .list .now) (a .args .at)) = omega (arith, c .before .before .before .if2 .taken) in
-    ((omega (arith, p .kept .0, a .pre .0 .0), omega (arith, p .kept .1 .0, a .pre .0 .1), omega (arith, p .kept .1 .1 .0, a .pre .0 .2), a .pre .0 .3, a .pre .0 .4), (a .pre .1, s))
+add-upload-fog : tie.Need-add-upload-fog
+add-upload-fog c = search needs
+
+upload-fog-requires : tie.Need-upload-fog-requires
+upload-fog-requires c κs = search needs
 
 same-length-4 : tie.Need-same-length-4
 same-length-4 c = search needs
@@ -67,15 +63,16 @@ same-length-6 c = search needs
 
 returns-2 : tie.Need-returns-2
 returns-2 c =
-    let a = c .before .before .before .before .before .before .before .before .before .before .before .before .before .before .before .before .before .before .before .before .before .before .before .before .before .before .before .before .before in
-    rw (c .before .before .before .before .before .before .apply-rest .ensures, c .before .before .before .before .before .before .before .before .before .before .before .before .before .before .before .before .before .before .put-one .ensures, c .before .before .before .before .before .before .before .before .before .before .before .before .before .before .before .before .before .before .before .before .spread-mask .ensures)
-    (sym (expand-first (a .args .list .now) (a .args .at) (st (a .args .cells .now) (a .args .fog .now) (a .args .light .now))))
+    let a = c .before .before .before .before .before .before .before .before .before .before .before .before .before .before .before .before .before .before .before .before .before .before .before .before .before .before .args in
+    let e = rw (c .before .before .before .before .before .before .before .before .before .before .before .before .before .before .before .before .before .spread-mask .ensures) at (c .before .before .before .before .before .before .before .before .before .before .before .before .before .before .before .put-one .ensures) in
+    rw (c .before .before .before .before .upload-fog .ensures .0, c .before .before .before .before .upload-fog .ensures .1)
+    (fog-command (a .list .now) (a .at) _ _ _ _ e (c .before .before .before .before .before .before .before .if2 .taken) (omega (arith, c .before .before .before .before .before .before .before .before .before .before .before .before .before .before .before .put-one .kept .0, c .before .before .before .before .before .before .before .before .before .before .before .before .before .before .before .before .before .before .before .before .before .before .before .before .before .before .pre .0 .0)))
 
-upload-fog-requires : tie.Need-upload-fog-requires
-upload-fog-requires c κs =
-    let a = c .before .before .before .before .before .before .before .before .before .before .before .before .before .before .before .before .before .before .before .before .before .before .before in
-    let p = c .before .before .before .before .before .before .before .before .before .before .before .before .put-one in
-    ((omega (arith, p .kept .0, a .pre .0 .0), omega (arith, p .kept .1 .0, a .pre .0 .1), omega (arith, p .kept .1 .1 .0, a .pre .0 .2)), (a .pre .1, c .before .before .before .before .if2 .left, c .before .before .before .if3 .taken))
+add-upload-light : tie.Need-add-upload-light
+add-upload-light c = search needs
+
+upload-light-requires : tie.Need-upload-light-requires
+upload-light-requires c κs = search needs
 
 same-length-7 : tie.Need-same-length-7
 same-length-7 c = search needs
@@ -88,23 +85,16 @@ same-length-9 c = search needs
 
 returns-3 : tie.Need-returns-3
 returns-3 c =
-    let a = c .before .before .before .before .before .before .before .before .before .before .before .before .before .before .before .before .before .before .before .before .before .before .before .before .before .before .before .before .before .before in
-    rw (c .before .before .before .before .before .before .upload-fog .ensures, c .before .before .before .before .before .before .before .before .before .before .before .before .before .before .before .before .before .before .before .put-one .ensures, c .before .before .before .before .before .before .before .before .before .before .before .before .before .before .before .before .before .before .before .before .before .spread-mask .ensures)
-    (sym (expand-first (a .args .list .now) (a .args .at) (st (a .args .cells .now) (a .args .fog .now) (a .args .light .now))))
+    let a = c .before .before .before .before .before .before .before .before .before .before .before .before .before .before .before .before .before .before .before .before .before .before .before .before .before .before .before .args in
+    let e = rw (c .before .before .before .before .before .before .before .before .before .before .before .before .before .before .before .before .before .before .spread-mask .ensures) at (c .before .before .before .before .before .before .before .before .before .before .before .before .before .before .before .before .put-one .ensures) in
+    rw (c .before .before .before .before .upload-light .ensures .0, c .before .before .before .before .upload-light .ensures .1)
+    (light-command (a .list .now) (a .at) _ _ _ _ e (c .before .before .before .before .before .before .before .if3 .taken) (omega (arith, c .before .before .before .before .before .before .before .before .before .before .before .before .before .before .before .before .put-one .kept .0, c .before .before .before .before .before .before .before .before .before .before .before .before .before .before .before .before .before .before .before .before .before .before .before .before .before .before .before .pre .0 .0)))
 
-slice-read-is-named : tie.Need-slice-read-is-named
-slice-read-is-named c = search needs
-
-is-named-requires : tie.Need-is-named-requires
-is-named-requires c κs = search needs
-
-upload-light-requires : tie.Need-upload-light-requires
-upload-light-requires c κs =
-    let a = c .before .before .before .before .before .before .before .before .before .before .before .before .before .before .before .before .before .before .before .before .before .before .before .before .before .before .before in
-    let p = c .before .before .before .before .before .before .before .before .before .before .before .before .before .before .before .before .put-one in (
-      (omega (arith, p .kept .0, a .pre .0 .0), omega (arith, p .kept .1 .0, a .pre .0 .1), omega (arith, p .kept .1 .1 .0, a .pre .0 .2), sym (c .before .before .before .before .is-named .ensures) ∙ c .before .before .before .if5 .taken),
-      (a .pre .1, c .before .before .before .before .before .before .before .before .if2 .left, c .before .before .before .before .before .before .before .if3 .left, c .before .before .before .before .before .before .if4 .taken),
-    )
+apply-rest-requires : tie.Need-apply-rest-requires
+apply-rest-requires c κs =
+    let s = c .before .before .before .before .before .before .before .before .before .before .before .before .before .before .before .before .before .before .before .before .before .before .before in
+    let k = c .before .before .before .before .before .before .before .before .before .before .before .before .put-one .kept in
+    ((omega (arith, k .0, s .pre .0 .0), omega (arith, k .1 .0, s .pre .0 .1), omega (arith, k .1 .1 .0, s .pre .0 .2), s .pre .0 .3, s .pre .0 .4), s .pre .1)
 
 same-length-10 : tie.Need-same-length-10
 same-length-10 c = search needs
@@ -117,30 +107,9 @@ same-length-12 c = search needs
 
 returns-4 : tie.Need-returns-4
 returns-4 c =
-    let a = c .before .before .before .before .before .before .before .before .before .before .before .before .before .before .before .before .before .before .before .before .before .before .before .before .before .before .before .before .before .before .before .before .before .before in
-    rw (c .before .before .before .before .before .before .upload-light .ensures, c .before .before .before .before .before .before .before .before .before .before .before .before .before .before .before .before .before .before .before .before .before .before .before .put-one .ensures, c .before .before .before .before .before .before .before .before .before .before .before .before .before .before .before .before .before .before .before .before .before .before .before .before .before .spread-mask .ensures)
-    (sym (expand-first (a .args .list .now) (a .args .at) (st (a .args .cells .now) (a .args .fog .now) (a .args .light .now))))
-
-apply-rest-requires-2 : tie.Need-apply-rest-requires-2
-apply-rest-requires-2 c κs =
-    let a = c .before .before .before .before .before .before .before .before .before .before .before .before .before .before .before .before .before .before .before .before .before .before .before .before in
-    let p = c .before .before .before .before .before .before .before .before .before .before .before .before .before .put-one in
-    ((omega (arith, p .kept .0, a .pre .0 .0), omega (arith, p .kept .1 .0, a .pre .0 .1), omega (arith, p .kept .1 .1 .0, a .pre .0 .2), a .pre .0 .3, a .pre .0 .4), (a .pre .1, sym (c .before .before .before .before .before .if2 .left)))
-
-same-length-13 : tie.Need-same-length-13
-same-length-13 c = search needs
-
-same-length-14 : tie.Need-same-length-14
-same-length-14 c = search needs
-
-same-length-15 : tie.Need-same-length-15
-same-length-15 c = search needs
-
-returns-5 : tie.Need-returns-5
-returns-5 c =
-    let a = c .before .before .before .before .before .before .before .before .before .before .before .before .before .before .before .before .before .before .before .before .before .before .before .before .before .before .before .before .before .before .before in
-    rw (c .before .before .before .before .before .before .apply-rest2 .ensures, c .before .before .before .before .before .before .before .before .before .before .before .before .before .before .before .before .before .before .before .before .put-one .ensures, c .before .before .before .before .before .before .before .before .before .before .before .before .before .before .before .before .before .before .before .before .before .before .spread-mask .ensures)
-    (sym (expand-first (a .args .list .now) (a .args .at) (st (a .args .cells .now) (a .args .fog .now) (a .args .light .now))))
+    let a = c .before .before .before .before .before .before .before .before .before .before .before .before .before .before .before .before .before .before .before .before .before .before .before .before .before .before .before .before .before .before .args in
+    rw (c .before .before .before .before .before .before .apply-rest .ensures, c .before .before .before .before .before .before .before .before .before .before .before .before .before .before .before .before .before .before .before .put-one .ensures, c .before .before .before .before .before .before .before .before .before .before .before .before .before .before .before .before .before .before .before .before .before .spread-mask .ensures)
+    (sym (expand-first (a .list .now) (a .at) (st (a .cells .now) (a .fog .now) (a .light .now))))
 
 pub apply-at-spec : {M : Type 1} → statement M
 apply-at-spec =
@@ -157,25 +126,20 @@ apply-at-spec =
     same-length-2
     same-length-3
     returns
-    apply-rest-requires
+    add-upload-fog
+    upload-fog-requires
     same-length-4
     same-length-5
     same-length-6
     returns-2
-    upload-fog-requires
+    add-upload-light
+    upload-light-requires
     same-length-7
     same-length-8
     same-length-9
     returns-3
-    slice-read-is-named
-    is-named-requires
-    upload-light-requires
+    apply-rest-requires
     same-length-10
     same-length-11
     same-length-12
-    returns-4
-    apply-rest-requires-2
-    same-length-13
-    same-length-14
-    same-length-15
-    returns-5)
+    returns-4)

@@ -14,13 +14,13 @@ use Rattle.reader.proofs.apply_rest.Statement.{statement}
 use Rattle.reader.proofs.apply_rest.Tie as tie
 
 abbrev Inv-loop : tie.InvT-loop
-Inv-loop cells₀ fog₀ light₀ slots held list at step h bytes id₀ left₀ j₀ cells fog light id left j =
+Inv-loop cells₀ fog₀ light₀ slots held list at h bytes step id₀ left₀ j₀ cells fog light id left j =
     (length cells ≡ 768) × (length fog ≡ 128) × (length light ≡ 6144)
     × (j + left ≡ at + 2 + countOf (headerAt list at)) × (at + 2 ≤ j) × (id + left ≤ 65792)
     × (applyAll (st cells fog light) (run list at left (j - (at + 1)) (id + stepOf (headerAt list at))) ≡ applyAll (st cells₀ fog₀ light₀) (rest list at))
 
 abbrev μ-loop : tie.MeasureT-loop
-μ-loop cells₀ fog₀ light₀ slots held list at step h bytes id₀ left₀ j₀ cells fog light id left j =
+μ-loop cells₀ fog₀ light₀ slots held list at h bytes step id₀ left₀ j₀ cells fog light id left j =
     left
 
 add-h : tie.Need-add-h Inv-loop μ-loop
@@ -58,7 +58,7 @@ put-one-requires c κs = search needs
 
 add-j-2 : tie.Need-add-j-2 Inv-loop μ-loop
 add-j-2 c =
-    omega (arith, c .before .before .before .before .before .before .before .before .before .before .before .before .before .before .before .before .before .before .before .fits, c .before .before .before .before .before .before .before .before .before .before .before .before .before .before .before .before .before .before .before .pre .1 .0, c .before .before .before .before .before .before .before .before .before .before .before .before .loop .inv .3)
+    omega (arith, c .before .before .before .before .before .before .before .before .before .before .before .before .before .before .before .before .before .before .before .fits, c .before .before .before .before .before .before .before .before .before .before .before .before .before .before .before .before .before .before .before .pre .1, c .before .before .before .before .before .before .before .before .before .before .before .before .loop .inv .3)
 
 sub-left : tie.Need-sub-left Inv-loop μ-loop
 sub-left c = search needs
@@ -75,7 +75,6 @@ loop-again c =
     let p = c .before .before .before .before .before .before .put-one in
     let t : 0 < o .left = c .before .before .before .before .before .before .before .before .before .before .before .loop-test .taken in
     let k : o .j + 1 - (at + 1) ≡ o .j - (at + 1) + 1 = omega (arith, o .inv .4) in
-    let e : a .args .step ≡ stepOf (headerAt l at) = a .pre .1 .1 in
     let v = param-later l at (o .j - (at + 1)) (o .j) (omega (arith, o .inv .4)) (omega (arith, o .inv .4)) in (
       omega (arith, p .kept .0),
       omega (arith, p .kept .1 .0),
@@ -83,7 +82,7 @@ loop-again c =
       omega (arith, o .inv .3),
       omega (arith, o .inv .4),
       omega (arith, o .inv .5),
-      rw (p .ensures, c .before .before .before .before .before .before .before .before .before .before .before .before .before .spread-mask .ensures, v, e, k) (sym (run-applies l at (st (o .cells) (o .fog) (o .light)) (o .left) (o .j - (at + 1)) _ t) ∙ o .inv .6),
+      rw (p .ensures, c .before .before .before .before .before .before .before .before .before .before .before .before .before .spread-mask .ensures, v, k) (sym (run-applies l at (st (o .cells) (o .fog) (o .light)) (o .left) (o .j - (at + 1)) _ t) ∙ o .inv .6),
     )
 
 same-length : tie.Need-same-length Inv-loop μ-loop
