@@ -1,7 +1,7 @@
 -- The tables that a look-up goes by: the rows of the held table as words, and for each low byte of an id the row to look at. Not of the document.
 use mathlib.Core.List.{List, [], _∷_, map}
 use Prim.Native.Nat.{ℕ, zero, suc, _%_}
-use lib.Dec.{eqb}
+use lib.Dec.{eqb, ltb}
 use Rattle.numbers.specs.Pick.{pick}
 use Rattle.registers.specs.Held.{Row, held}
 
@@ -23,6 +23,10 @@ abbrev pub upTo : ℕ → List ℕ → List ℕ
 upTo zero l = l
 upTo (suc n) l = upTo n (n ∷ l)
 
--- no two held ids have the same low byte, so one row is looked at: the one of that byte, or any other, where there is none
+-- no two held ids have the same low byte, so one row is looked at: the one of that byte; where there is none, row 0 or 1 by turns, since a stretch
+-- of equal bytes would be filled apart when the table is made, and cut the rest of it into odd stores
+abbrev pub slotOf : ℕ → ℕ
+slotOf j = pick (ltb (rowIn held j) 66) (rowIn held j) (j % 2)
+
 unfoldable pub slotTable : List ℕ
-slotTable = map (λ j. rowIn held j % 66) (upTo 256 [])
+slotTable = map slotOf (upTo 256 [])
