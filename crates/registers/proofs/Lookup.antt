@@ -1,7 +1,7 @@
 -- The look-up's rule: a row whose id is the one looked for has its bits; an id without such a row holds none. One test, computed over the 768 ids.
 -- Assumes nothing.
 use mathlib.Core.Path.{_≡_, refl, sym, _∙_}
-use mathlib.Core.Bool.{Bool, true, false, not, _&&_}
+use mathlib.Core.Bool.{Bool, true, false, not, _&&_, false≢true}
 use mathlib.Core.List.{List, [], _∷_}
 use Prim.Native.Nat.{ℕ, _+_, _*_, _%_, _<_, _≤_}
 use native.Mathlib.Decide.{decLt}
@@ -23,12 +23,9 @@ idAt k = getD heldTable (2 * getD slotTable (k % 256) 0) 0
 abbrev pub bitsAt : ℕ → ℕ
 bitsAt k = getD heldTable (2 * getD slotTable (k % 256) 0 + 1) 0
 
--- a row of k has the bits of k, which are some, and k is no port's data; else k holds none
+-- a row of k has the bits of k, and k is no port's data; else k holds none
 right : ℕ → Bool
-right k =
-    pick (eqb (idAt k) k)
-    (eqb (bitsAt k) (bitsOf k) && not (eqb (bitsOf k) 0) && not (fogData k) && not (lightData k))
-    (eqb (bitsOf k) 0)
+right k = pick (eqb (idAt k) k) (eqb (bitsAt k) (bitsOf k) && not (fogData k) && not (lightData k)) (eqb (bitsOf k) 0)
 
 rule : (k : ℕ) → k < 768 → right k ≡ true
 unfolding right slotTable heldTable rowWords bitsOf bitsIn rowIn held
@@ -46,28 +43,24 @@ id-small j h =
 
 pub record Has (k : ℕ) : Type 0 where
   pub small : k < 768
-  pub bits : bitsAt k ≡ bitsOf k
-  pub some : eqb (bitsOf k) 0 ≡ false
   pub noFog : fogData k ≡ false
   pub noLight : lightData k ≡ false
 
-pub row-has : (k : ℕ) → idAt k ≡ k → Has k
+-- a row whose id is k has the bits of k
+row-right : (k : ℕ) → idAt k ≡ k → (bitsAt k ≡ bitsOf k) × Has k
 unfolding right
-row-has k e =
+row-right k e =
     let l : k < 768 = omega (arith, e, id-small (k % 256) (omega arith)) in
     let B = eqb (bitsAt k) (bitsOf k) in
-    let N = not (eqb (bitsOf k) 0) in
     let F = not (fogData k) in
-    let p = and-true (B && N && F) (not (lightData k)) (rw (eq-eqb (idAt k) k e) at (rule k l)) in
-    let q = and-true (B && N) F (p .0) in
-    let s = and-true B N (q .0) in
-    record {
-      small = l;
-      bits = eqb-true (bitsAt k) (bitsOf k) (s .0);
-      some = not-true (eqb (bitsOf k) 0) (s .1);
-      noFog = not-true (fogData k) (q .1);
-      noLight = not-true (lightData k) (p .1);
-    }
+    let p = and-true (B && F) (not (lightData k)) (rw (eq-eqb (idAt k) k e) at (rule k l)) in
+    let q = and-true B F (p .0) in (
+      eqb-true (bitsAt k) (bitsOf k) (q .0),
+      record { small = l; noFog = not-true (fogData k) (q .1); noLight = not-true (lightData k) (p .1) },
+    )
+
+pub row-bits : (k : ℕ) → idAt k ≡ k → bitsAt k ≡ bitsOf k
+row-bits k e = row-right k e .0
 
 -- no row has an id above 2FFh
 below : List Row → Bool
@@ -86,10 +79,19 @@ above-none : (k : ℕ) → 768 ≤ k → bitsOf k ≡ 0
 unfolding bitsOf below held
 above-none k h = none-above held k refl h
 
-by-size : (k : ℕ) → Dec (k < 768) → (idAt k ≡ k → ⊥) → eqb (bitsOf k) 0 ≡ true
+by-size : (k : ℕ) → Dec (k < 768) → (idAt k ≡ k → ⊥) → bitsOf k ≡ 0
 unfolding right
-by-size k (yes l) e = rw (ne-eqb (idAt k) k e) at (rule k l)
-by-size k (no l) e = eq-eqb (bitsOf k) 0 (above-none k (omega arith))
+by-size k (yes l) e = eqb-true (bitsOf k) 0 (rw (ne-eqb (idAt k) k e) at (rule k l))
+by-size k (no l) e = above-none k (omega arith)
 
-pub row-none : (k : ℕ) → (idAt k ≡ k → ⊥) → eqb (bitsOf k) 0 ≡ true
+-- without one it holds none
+pub row-none : (k : ℕ) → (idAt k ≡ k → ⊥) → bitsOf k ≡ 0
 row-none k e = by-size k (decLt k 768) e
+
+-- a register that holds bits has a cell, and is no port's data
+by-row : (k : ℕ) (b : Bool) → eqb (idAt k) k ≡ b → (bitsOf k ≡ 0 → ⊥) → Has k
+by-row k true e h = row-right k (eqb-true (idAt k) k e) .1
+by-row k false e h = absurd (h (row-none k (λ t. false≢true (sym e ∙ eq-eqb (idAt k) k t))))
+
+pub held-has : (k : ℕ) → (bitsOf k ≡ 0 → ⊥) → Has k
+held-has k h = by-row k (eqb (idAt k) k) refl h

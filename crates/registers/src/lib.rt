@@ -4,6 +4,7 @@ ghost use Prim.Native.Nat.{_%_, _<_};
 ghost use lib.ListN.{length};
 ghost use Rattle.words.specs.Writes.{writing};
 ghost use Rattle.registers.specs.State.{st, sized};
+ghost use Rattle.registers.specs.Held.{bitsOf};
 ghost use Rattle.registers.specs.Tables.{heldTable, slotTable};
 ghost use Rattle.registers.specs.Applied.{put};
 ghost use Rattle.registers.specs.Single.{told, writeAnswer, writeState};
@@ -24,6 +25,19 @@ fn low_byte(id: u32) -> usize
     (id % 256) as usize
 }
 
+// The bits that the register `id` holds, 0 where it isn't held: one row of the table can be its row.
+pub fn bits_held(slots: &[u8; 256], held: &[u32; 132], id: u32) -> u32
+    requires { ⌜ (now slots ≡ slotTable) × (now held ≡ heldTable) ⌝ }
+    ensures { λ r. ⌜ r ≡ bitsOf id ⌝ }
+{
+    let slot = wide(slots[low_byte(id)]);
+    if held[2 * slot] == id {
+        held[2 * slot + 1]
+    } else {
+        0
+    }
+}
+
 // One write, of the bytes of `bytes`: held registers first, which are most.
 pub fn put_one(
     cells: &mut [u32],
@@ -38,10 +52,10 @@ pub fn put_one(
     requires { ⌜ (length (now cells) ≡ 768) × (length (now fog) ≡ 128) × (length (now light) ≡ 6144) × (now slots ≡ slotTable) × (now held ≡ heldTable) ⌝ }
     ensures { λ _. ⌜ st (now (cells .exit)) (now (fog .exit)) (now (light .exit)) ≡ put (st (now (cells .entry)) (now (fog .entry)) (now (light .entry))) id bytes value ⌝ }
 {
-    let slot = wide(slots[low_byte(id)]);
-    if held[2 * slot] == id {
+    let bits = bits_held(slots, held, id);
+    if bits != 0 {
         let i = id as usize;
-        cells[i] = ports::merged(held[2 * slot + 1] & bytes, cells[i], value);
+        cells[i] = ports::merged(bits & bytes, cells[i], value);
         return;
     }
     if (0xE8 <= id) & (id <= 0xEF) {

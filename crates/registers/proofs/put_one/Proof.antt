@@ -1,73 +1,30 @@
 -- Each way out is one case of `put`. Assumes nothing.
 use mathlib.Core.Path.{_≡_, sym, _∙_}
-use Prim.Native.Nat.{_+_, _*_, _%_, _<_}
+use Prim.Native.Nat.{_<_}
 use native.Mathlib.Omega.{arith}
-use lib.ListN.{getD}
-use Rattle.registers.specs.Tables.{heldTable, slotTable}
-use Rattle.registers.proofs.Lookup.{idAt, bitsAt, slot-small, row-has, row-none}
+use Rattle.registers.specs.Held.{bitsOf}
+use Rattle.registers.proofs.Lookup.{Has, held-has}
 use Rattle.registers.proofs.Puts.{put-held, put-fog-data, put-light-data, put-free}
 use borrow.Author.Needs.{needs}
 use Rattle.registers.proofs.put_one.Statement.{statement}
 use Rattle.registers.proofs.put_one.Tie as tie
 
--- the slot that is looked at, and the id and the bits of its row
-slot-of : (c : tie.After-wide) → c .wide .result ≡ getD slotTable (c .before .before .before .before .before .before .args .id % 256) 0
-slot-of c = c .wide .ensures ∙ rw (c .before .before .low-byte .ensures .0, c .before .before .before .before .before .before .pre .3)
+-- the register holds bits, and so has a cell
+some : (c : tie.Then1) → bitsOf (c .before .before .before .before .before .args .id) ≡ 0 → ⊥
+some c e = c .if1 .taken (c .before .bits-held .ensures ∙ e)
 
-small : (c : tie.After-wide) → c .wide .result < 66
-small c = rw (slot-of c) (slot-small (c .before .before .before .before .before .before .args .id % 256) (omega arith))
+has : (c : tie.Then1) → Has (c .before .before .before .before .before .args .id)
+has c = held-has (c .before .before .before .before .before .args .id) (some c)
 
-id-of : (c : tie.After-wide) → idAt (c .before .before .before .before .before .before .args .id) ≡ getD (c .before .before .before .before .before .before .args .held .now) (2 * c .wide .result) 0
-id-of c = rw (c .before .before .before .before .before .before .pre .4, slot-of c)
-
-bits-of : (c : tie.After-wide) → bitsAt (c .before .before .before .before .before .before .args .id) ≡ getD (c .before .before .before .before .before .before .args .held .now) (2 * c .wide .result + 1) 0
-bits-of c = rw (c .before .before .before .before .before .before .pre .4, slot-of c)
-
-low-byte-requires : tie.Need-low-byte-requires
-low-byte-requires c κs = search needs
-
-element-copy-out-wide : tie.Need-element-copy-out-wide
-element-copy-out-wide c = search needs
-
-wide-requires : tie.Need-wide-requires
-wide-requires c κs = search needs
-
-mul-if1 : tie.Need-mul-if1
-mul-if1 c =
-    let s : c .wide .result < 66 = small c in omega arith
-
-mul-if1-2 : tie.Need-mul-if1-2
-mul-if1-2 c =
-    let s : c .wide .result < 66 = small c in omega arith
-
-element-copy-out-if1 : tie.Need-element-copy-out-if1
-element-copy-out-if1 c =
-    let s : c .wide .result < 66 = small c in omega arith
+bits-held-requires : tie.Need-bits-held-requires
+bits-held-requires c κs = search needs
 
 mul-merged : tie.Need-mul-merged
-mul-merged c =
-    let s : c .before .before .wide .result < 66 = small (c .before .before) in omega arith
-
-add-merged : tie.Need-add-merged
-add-merged c =
-    let s : c .before .before .wide .result < 66 = small (c .before .before) in omega arith
-
-mul-merged-2 : tie.Need-mul-merged-2
-mul-merged-2 c =
-    let s : c .before .before .wide .result < 66 = small (c .before .before) in omega arith
-
-element-copy-out-merged : tie.Need-element-copy-out-merged
-element-copy-out-merged c =
-    let s : c .before .before .wide .result < 66 = small (c .before .before) in omega arith
-
-mul-merged-3 : tie.Need-mul-merged-3
-mul-merged-3 c = search needs
+mul-merged c = search needs
 
 slice-read-merged : tie.Need-slice-read-merged
 slice-read-merged c =
-    let at-if1 = c .before .before in
-    let at-wide = at-if1 .before .before in
-    let i = row-has (at-wide .before .before .before .before .before .before .args .id) (id-of at-wide ∙ at-if1 .if1 .taken) .small in omega arith
+    let i = has (c .before) .small in omega arith
 
 merged-requires : tie.Need-merged-requires
 merged-requires c κs = search needs
@@ -77,20 +34,15 @@ mul-cells c = search needs
 
 slice-write-cells : tie.Need-slice-write-cells
 slice-write-cells c =
-    let at-if1 = c .before .before .before in
-    let at-wide = at-if1 .before .before in
-    let i = row-has (at-wide .before .before .before .before .before .before .args .id) (id-of at-wide ∙ at-if1 .if1 .taken) .small in omega arith
+    let i = has (c .before .before) .small in omega arith
 
 same-length : tie.Need-same-length
 same-length c = search needs
 
 returns : tie.Need-returns
 returns c =
-    let at-if1 = c .before .before .before in
-    let at-wide = at-if1 .before .before in
-    let a = at-wide .before .before .before .before .before .before in
-    let h = id-of at-wide ∙ at-if1 .if1 .taken in
-    rw (put-held _ (a .args .id) (a .args .bytes) (a .args .value) h, c .merged .ensures, bits-of at-wide)
+    let a = c .before .before .before .before .before .before .before .args in
+    rw (put-held _ (a .id) (a .bytes) (a .value) (some (c .before .before)), c .merged .ensures, c .before .before .before .bits-held .ensures)
 
 put-fog-requires : tie.Need-put-fog-requires
 put-fog-requires c κs = search needs
@@ -103,9 +55,7 @@ same-length-3 c = search needs
 
 returns-2 : tie.Need-returns-2
 returns-2 c =
-    let at-put-fog = c .before .before .before .before in
-    let at-if2 = at-put-fog .before .before .before in
-    rw (put-fog-data _ _ _ _ (at-if2 .if2 .taken), at-put-fog .put-fog .ensures .0, at-put-fog .put-fog .ensures .1)
+    rw (put-fog-data _ _ _ _ (c .before .before .before .before .before .before .before .if2 .taken), c .before .before .before .before .put-fog .ensures .0, c .before .before .before .before .put-fog .ensures .1)
 
 put-light-requires : tie.Need-put-light-requires
 put-light-requires c κs = search needs
@@ -118,35 +68,19 @@ same-length-5 c = search needs
 
 returns-3 : tie.Need-returns-3
 returns-3 c =
-    let at-put-light = c .before .before .before .before in
-    let at-if3 = at-put-light .before .before .before in
-    let at-if2 = at-if3 .before in
-    rw (put-light-data _ _ _ _ (at-if2 .if2 .left) (at-if3 .if3 .taken), at-put-light .put-light .ensures .0, at-put-light .put-light .ensures .1)
+    rw (put-light-data _ _ _ _ (c .before .before .before .before .before .before .before .before .if2 .left) (c .before .before .before .before .before .before .before .if3 .taken), c .before .before .before .before .put-light .ensures .0, c .before .before .before .before .put-light .ensures .1)
 
 returns-4 : tie.Need-returns-4
 returns-4 c =
-    let at-if2 = c .before in
-    let at-if1 = at-if2 .before in
-    let at-wide = at-if1 .before .before in
-    let a = at-wide .before .before .before .before .before .before in
-    let h = row-none (a .args .id) (λ e. at-if1 .if1 .left (sym (id-of at-wide) ∙ e)) in
-    sym (put-free _ (a .args .id) (a .args .bytes) (a .args .value) (at-if2 .if2 .left) (c .if3 .left) h)
+    let a = c .before .before .before .before .before .before .before .args in
+    sym (put-free _ (a .id) (a .bytes) (a .value) (c .before .if2 .left) (c .if3 .left) (sym (c .before .before .before .bits-held .ensures) ∙ c .before .before .if1 .left))
 
 pub put-one-spec : {M : Type 1} → statement M
 put-one-spec =
     tie.close
     (tie.spec
-    low-byte-requires
-    element-copy-out-wide
-    wide-requires
-    mul-if1
-    mul-if1-2
-    element-copy-out-if1
+    bits-held-requires
     mul-merged
-    add-merged
-    mul-merged-2
-    element-copy-out-merged
-    mul-merged-3
     slice-read-merged
     merged-requires
     mul-cells
