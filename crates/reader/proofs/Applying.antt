@@ -15,7 +15,6 @@ use Rattle.words.specs.Commands.{headerAt, paramAt, whole, run, expand, command
 use Rattle.words.proofs.Laws.{commands-end, commands-step, run-done, run-next, join-none, join-more, full-more}
 use Rattle.registers.specs.State.{State}
 use Rattle.registers.specs.Applied.{put, apply, applyAll}
-use Rattle.reader.specs.Rest.{rest}
 
 pub apply-none : (s : State) → applyAll s [] ≡ s
 unfolding applyAll
@@ -66,12 +65,24 @@ module _ (l : List ℕ) (at : ℕ) where
 
 -- A COMMAND: its first write, and then the rest
 module _ (l : List ℕ) (at : ℕ) where
+  abbrev head : ℕ
+  head = headerAt l at
+
   pub expand-first : (s : State)
       → applyAll s (expand l at)
-      ≡ applyAll (put s (idOf (headerAt l at)) (spread (maskOf (headerAt l at))) (getD l at 0)) (rest l at)
+      ≡ applyAll (put s (idOf head) (spread (maskOf head)) (getD l at 0)) (run l at (countOf head) 1 (idOf head + stepOf head))
   expand-first s =
-      let n : countOf (headerAt l at) + 1 - 1 ≡ countOf (headerAt l at) = omega arith in
-      rw n at (run-applies l at s (countOf (headerAt l at) + 1) 0 (idOf (headerAt l at)) (omega arith))
+      let n : countOf head + 1 - 1 ≡ countOf head = omega arith in
+      rw n at (run-applies l at s (countOf head + 1) 0 (idOf head) (omega arith))
 
-  pub rest-none : (s : State) → countOf (headerAt l at) ≡ 0 → applyAll s (rest l at) ≡ s
-  rest-none s z = run-applied l at s (countOf (headerAt l at)) 1 (idOf (headerAt l at) + stepOf (headerAt l at)) (omega arith)
+  -- of a command to one id
+  module _ (one : stepOf head ≡ 0) where
+    pub same-first : (s : State)
+        → applyAll s (expand l at) ≡ applyAll (put s (idOf head) (spread (maskOf head)) (getD l at 0)) (run l at (countOf head) 1 (idOf head))
+    same-first s = let d : idOf head + stepOf head ≡ idOf head = omega arith in rw d at (expand-first s)
+
+    pub same-next : (s : State) (n k i j : ℕ) → 0 < n → 0 < k → j ≡ at + 1 + k
+        → applyAll s (run l at n k i) ≡ applyAll (put s i (spread (maskOf head)) (getD l j 0)) (run l at (n - 1) (k + 1) i)
+    same-next s n k i j q p e =
+        let d : i + stepOf head ≡ i = omega arith in
+        run-applies l at s n k i q ∙ rw (d, param-later l at k j p e)

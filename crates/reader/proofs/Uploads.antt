@@ -1,14 +1,14 @@
 -- The writes of a command to a port's data leave what an upload leaves. Assumes nothing.
-use mathlib.Core.Path.{_≡_, refl, sym, ap, _∙_}
-use mathlib.Core.Bool.{Bool, true, false, _&&_, and-false}
+use mathlib.Core.Path.{_≡_, refl, ap, _∙_}
+use mathlib.Core.Bool.{Bool, true, false, and-false}
 use mathlib.Core.List.{List}
 use Prim.Native.Nat.{ℕ, zero, suc, _+_, _-_, _*_, _/_, _%_, _≤_, _<_}
 use native.Mathlib.Decide.{decLt}
 use native.Mathlib.Omega.{arith}
-use lib.Dec.{leb, eqb}
+use lib.Dec.{leb}
 use lib.ListN.{length, getD, set, length-set}
 use lib.Seq.{getD-set-same, set-set, set-getD}
-use borrow.Author.Tests.{leb-true, lt-leb, eqb-true}
+use borrow.Author.Tests.{leb-true, lt-leb}
 use Rattle.numbers.specs.Bits.{spread}
 use Rattle.numbers.specs.Pick.{pick}
 use Rattle.numbers.proofs.Tests.{and-true}
@@ -18,10 +18,10 @@ use Rattle.words.specs.Commands.{headerAt, run, expand}
 use Rattle.ports.specs.Ports.{named, rise, lightTable, lightIndex, fogCells, fogEntries, lightCells, lightEntries}
 use Rattle.ports.specs.Uploads.{withEntry, wrapped, uploaded, risen, fogCellsAfter, fogUploaded, lightCellsAfter, lightUploaded}
 use Rattle.ports.proofs.Uploads.{wrapped-inside, wrapped-end, uploaded-done, uploaded-next}
-use Rattle.registers.specs.State.{State, st}
-use Rattle.registers.specs.Applied.{put, applyAll}
+use Rattle.registers.specs.State.{st}
+use Rattle.registers.specs.Applied.{applyAll}
 use Rattle.registers.proofs.Puts.{put-fog-data, put-light-data}
-use Rattle.reader.proofs.Applying.{run-applied, run-applies, param-later, expand-first}
+use Rattle.reader.proofs.Applying.{run-applied, same-first, same-next}
 
 -- THE INDEX
 
@@ -48,15 +48,16 @@ pick-inside : {A : Type 0} (b : Bool) (f : A → A) (u v : A) → pick b (f (pic
 pick-inside true f u v = refl
 pick-inside false f u v = refl
 
+fog-cells : (cells : List ℕ) → 0xE6 < length cells → 0xE6 < length (fogCells cells)
+unfolding fogCells
+fog-cells cells h = simp length-set h
+
+light-cells : (cells : List ℕ) → 0x1C5 < length cells → 0x1C5 < length (lightCells cells)
+unfolding lightCells
+light-cells cells h = simp length-set h
+
 -- THE WRITES OF A COMMAND TO ONE ID
 module _ (l : List ℕ) (at : ℕ) (one : stepOf (headerAt l at) ≡ 0) where
-  run-same : (s : State) (n k i : ℕ) (j : ℕ) → 0 < k → j ≡ at + 1 + k
-      → applyAll s (run l at (suc n) k i) ≡ applyAll (put s i (spread (maskOf (headerAt l at))) (getD l j 0)) (run l at n (k + 1) i)
-  run-same s n k i j p e =
-      let d : i + stepOf (headerAt l at) ≡ i = omega arith in
-      let m : suc n - 1 ≡ n = omega arith in
-      run-applies l at s (suc n) k i (omega arith) ∙ rw (d, m, param-later l at k j p e)
-
   -- FOG
   pub fog-run : (n k j i : ℕ) (cells fog light : List ℕ) → fogData i ≡ true → 0xE6 < length cells → 0 < k → j ≡ at + 1 + k
       → applyAll (st cells fog light) (run l at n k i) ≡ st (fogCellsAfter cells n) (fogUploaded cells fog l j n) light
@@ -72,10 +73,9 @@ module _ (l : List ℕ) (at : ℕ) (one : stepOf (headerAt l at) ≡ 0) where
       let r : risen 128 y n ≡ risen 128 x (suc n) = omega arith in
       let z : 0 + x % 128 ≡ x % 128 = omega arith in
       let m : suc n - 1 ≡ n = omega arith in
-      let b : 0xE6 < length (fogCells cells) = simp length-set h in
-      run-same (st cells fog light) n k i j p e
-      ∙ rw (put-fog-data (st cells fog light) i (spread (maskOf (headerAt l at))) (getD l j 0) f)
-      (fog-run n (k + 1) (j + 1) i (fogCells cells) (fogEntries cells fog (getD l j 0)) light f b (omega arith) (omega arith)
+      same-next l at one (st cells fog light) (suc n) k i j (omega arith) p e
+      ∙ rw (m, put-fog-data (st cells fog light) i (spread (maskOf (headerAt l at))) (getD l j 0) f)
+      (fog-run n (k + 1) (j + 1) i (fogCells cells) (fogEntries cells fog (getD l j 0)) light f (fog-cells cells h) (omega arith) (omega arith)
       ∙ rw (getD-set-same cells 0xE6 y 0 h, set-set cells 0xE6 y, r, uploaded-next 128 0 (x % 128) fog l j (suc n) (omega arith), m, z, fog-index x (decLt (x % 128 + 1) 128)))
 
   -- LIGHT, by whether the open table is named
@@ -95,11 +95,10 @@ module _ (l : List ℕ) (at : ℕ) (one : stepOf (headerAt l at) ≡ 0) where
       let r : risen 256 y n ≡ risen 256 x (suc n) = omega arith in
       let q : y / 256 ≡ x / 256 = omega arith in
       let m : suc n - 1 ≡ n = omega arith in
-      let s : 0x1C5 < length (lightCells cells) = simp length-set h in
       let v : named (lightTable (lightCells cells)) ≡ b = rw (getD-set-same cells 0x1C5 y 0 h, q) d in
-      run-same (st cells fog light) n k i j p e
-      ∙ rw (put-light-data (st cells fog light) i (spread (maskOf (headerAt l at))) (getD l j 0) (light-only i g) g)
-      (light-by b n (k + 1) (j + 1) i (lightCells cells) fog (lightEntries cells light (getD l j 0)) v g s (omega arith) (omega arith)
+      same-next l at one (st cells fog light) (suc n) k i j (omega arith) p e
+      ∙ rw (m, put-light-data (st cells fog light) i (spread (maskOf (headerAt l at))) (getD l j 0) (light-only i g) g)
+      (light-by b n (k + 1) (j + 1) i (lightCells cells) fog (lightEntries cells light (getD l j 0)) v g (light-cells cells h) (omega arith) (omega arith)
       ∙ rw (
         getD-set-same cells 0x1C5 y 0 h,
         set-set cells 0x1C5 y,
@@ -117,28 +116,26 @@ module _ (l : List ℕ) (at : ℕ) (one : stepOf (headerAt l at) ≡ 0) where
       → applyAll (st cells fog light) (run l at n k i) ≡ st (lightCellsAfter cells n) fog (lightUploaded cells light l j n)
   light-run n k j i cells fog light g h p e = light-by (named (lightTable cells)) n k j i cells fog light refl g h p e
 
--- A COMMAND TO A PORT'S DATA: after its first write, an upload of the rest
-module _ (l : List ℕ) (at : ℕ) (s : State) (cells fog light : List ℕ) where
+-- A COMMAND TO A PORT'S DATA: its first write, and an upload of the rest
+module _ (l : List ℕ) (at : ℕ) (one : stepOf (headerAt l at) ≡ 0) (cells fog light : List ℕ) where
   abbrev h : ℕ
   h = headerAt l at
 
-  to-rest : st cells fog light ≡ put s (idOf h) (spread (maskOf h)) (getD l at 0) → stepOf h ≡ 0 → applyAll (st cells fog light) (run l at (countOf h) 1 (idOf h)) ≡ applyAll s (expand l at)
-  to-rest e one =
-      let d : idOf h + stepOf h ≡ idOf h = omega arith in
-      rw e (rw d at (sym (expand-first l at s)))
+  abbrev v : ℕ
+  v = getD l at 0
 
-  pub fog-command : st cells fog light ≡ put s (idOf h) (spread (maskOf h)) (getD l at 0)
-      → (eqb (stepOf h) 0 && fogData (idOf h)) ≡ true → 0xE6 < length cells
-      → st (fogCellsAfter cells (countOf h)) (fogUploaded cells fog l (at + 2) (countOf h)) light ≡ applyAll s (expand l at)
-  fog-command e t b =
-      let u = and-true (eqb (stepOf h) 0) (fogData (idOf h)) t in
-      let one = eqb-true (stepOf h) 0 (u .0) in
-      sym (fog-run l at one (countOf h) 1 (at + 2) (idOf h) cells fog light (u .1) b (omega arith) (omega arith)) ∙ to-rest e one
+  pub fog-command : fogData (idOf h) ≡ true → 0xE6 < length cells
+      → applyAll (st cells fog light) (expand l at)
+      ≡ st (fogCellsAfter (fogCells cells) (countOf h)) (fogUploaded (fogCells cells) (fogEntries cells fog v) l (at + 2) (countOf h)) light
+  fog-command f b =
+      same-first l at one (st cells fog light)
+      ∙ rw (put-fog-data (st cells fog light) (idOf h) (spread (maskOf h)) v f)
+      (fog-run l at one (countOf h) 1 (at + 2) (idOf h) (fogCells cells) (fogEntries cells fog v) light f (fog-cells cells b) (omega arith) (omega arith))
 
-  pub light-command : st cells fog light ≡ put s (idOf h) (spread (maskOf h)) (getD l at 0)
-      → (eqb (stepOf h) 0 && lightData (idOf h)) ≡ true → 0x1C5 < length cells
-      → st (lightCellsAfter cells (countOf h)) fog (lightUploaded cells light l (at + 2) (countOf h)) ≡ applyAll s (expand l at)
-  light-command e t b =
-      let u = and-true (eqb (stepOf h) 0) (lightData (idOf h)) t in
-      let one = eqb-true (stepOf h) 0 (u .0) in
-      sym (light-run l at one (countOf h) 1 (at + 2) (idOf h) cells fog light (u .1) b (omega arith) (omega arith)) ∙ to-rest e one
+  pub light-command : lightData (idOf h) ≡ true → 0x1C5 < length cells
+      → applyAll (st cells fog light) (expand l at)
+      ≡ st (lightCellsAfter (lightCells cells) (countOf h)) fog (lightUploaded (lightCells cells) (lightEntries cells light v) l (at + 2) (countOf h))
+  light-command g b =
+      same-first l at one (st cells fog light)
+      ∙ rw (put-light-data (st cells fog light) (idOf h) (spread (maskOf h)) v (light-only (idOf h) g) g)
+      (light-run l at one (countOf h) 1 (at + 2) (idOf h) (lightCells cells) fog (lightEntries cells light v) g (light-cells cells b) (omega arith) (omega arith))

@@ -1,4 +1,4 @@
 pub mod Clear
-pub mod Rest
+pub mod ToOne
 pub mod Verdict
 pub mod Read

@@ -1,15 +1,16 @@
 // A list read into a state: judged whole, and then applied. The contracts cite specs/Verdict.antt and specs/Read.antt.
 ghost use mathlib.Core.Path.{_≡_};
 ghost use mathlib.Core.Bool.{true};
-ghost use Prim.Native.Nat.{_+_, _≤_, _<_};
+ghost use mathlib.Core.List.{List};
+ghost use Prim.Native.Nat.{ℕ, _+_, _≤_, _<_};
 ghost use lib.ListN.{length};
 ghost use Rattle.numbers.specs.Pick.{pick};
-ghost use Rattle.words.specs.Header.{wordsOf};
+ghost use Rattle.words.specs.Header.{stepOf, wordsOf};
 ghost use Rattle.words.specs.Commands.{headerAt, expand, expansion, wellFormed};
 ghost use Rattle.registers.specs.State.{st};
 ghost use Rattle.registers.specs.Tables.{heldTable, slotTable};
 ghost use Rattle.registers.specs.Applied.{applyAll};
-ghost use Rattle.reader.specs.Rest.{rest};
+ghost use Rattle.reader.specs.ToOne.{ToOne};
 ghost use Rattle.reader.specs.Verdict.{verdict};
 ghost use Rattle.reader.specs.Clear.{lastId, clear};
 ghost use Rattle.reader.specs.Read.{told, readAnswer, readState};
@@ -92,8 +93,8 @@ fn words_taken(h: u32) -> usize
     (2 + count + (2 + count) % 2) as usize
 }
 
-// The writes after the first of the command at `at`, one after another.
-fn apply_rest(
+// The command at `at`, one write after another: the first value stands before the header, the others after it.
+fn apply_rising(
     cells: &mut [u32],
     fog: &mut [u32],
     light: &mut [u32],
@@ -103,24 +104,49 @@ fn apply_rest(
     at: usize,
 )
     requires { ⌜ (length (now cells) ≡ 768) × (length (now fog) ≡ 128) × (length (now light) ≡ 6144) × (now slots ≡ slotTable) × (now held ≡ heldTable) ⌝ }
-    requires { ⌜ at + wordsOf (headerAt (now list) at) ≤ length (now list) ⌝ }
-    ensures { λ _. ⌜ st (now (cells .exit)) (now (fog .exit)) (now (light .exit)) ≡ applyAll (st (now (cells .entry)) (now (fog .entry)) (now (light .entry))) (rest (now (list .entry)) at) ⌝ }
+    requires { ⌜ (at + wordsOf (headerAt (now list) at) ≤ length (now list)) × (stepOf (headerAt (now list) at) ≡ 1) ⌝ }
+    ensures { λ _. ⌜ st (now (cells .exit)) (now (fog .exit)) (now (light .exit)) ≡ applyAll (st (now (cells .entry)) (now (fog .entry)) (now (light .entry))) (expand (now (list .entry)) at) ⌝ }
 {
     let h = list[at + 1];
     let bytes = ports::spread_mask(h / 0x10000 % 16);
-    let step = h / 0x80000000 % 2;
     let mut id = h % 0x10000;
     let mut left = h / 0x100000 % 256;
     let mut j = at + 2;
+    registers::put_one(cells, fog, light, slots, held, id, bytes, list[at]);
     while 0 < left {
-        id += step;
+        id += 1;
         registers::put_one(cells, fog, light, slots, held, id, bytes, list[j]);
         j += 1;
         left -= 1;
     }
 }
 
-// The command at `at`: its first write, and then the rest by what they are.
+// The command at `at` to one id that is no port's data: its bits are looked up once, and its values go into the cell one after another.
+fn apply_same(cells: &mut [u32], slots: &[u8; 256], held: &[u32; 132], list: &[u32], at: usize)
+    requires { ⌜ (length (now cells) ≡ 768) × (now slots ≡ slotTable) × (now held ≡ heldTable) × (at + wordsOf (headerAt (now list) at) ≤ length (now list)) ⌝ }
+    requires { ⌜ ToOne (headerAt (now list) at) ⌝ }
+    ensures { λ _. ⌜ ((fog light : List ℕ) → st (now (cells .exit)) fog light ≡ applyAll (st (now (cells .entry)) fog light) (expand (now (list .entry)) at)) ⌝ }
+{
+    let h = list[at + 1];
+    let id = h % 0x10000;
+    let bits = registers::bits_held(slots, held, id);
+    if bits == 0 {
+        return;
+    }
+    let i = id as usize;
+    let written = bits & ports::spread_mask(h / 0x10000 % 16);
+    let mut cell = ports::merged(written, cells[i], list[at]);
+    let mut left = h / 0x100000 % 256;
+    let mut j = at + 2;
+    while 0 < left {
+        cell = ports::merged(written, cell, list[j]);
+        j += 1;
+        left -= 1;
+    }
+    cells[i] = cell;
+}
+
+// The command at `at`, by what it writes to: a port's data, one other id, or ids that rise.
 fn apply_at(
     cells: &mut [u32],
     fog: &mut [u32],
@@ -136,30 +162,21 @@ fn apply_at(
 {
     let h = list[at + 1];
     let id = h % 0x10000;
-    registers::put_one(
-        cells,
-        fog,
-        light,
-        slots,
-        held,
-        id,
-        ports::spread_mask(h / 0x10000 % 16),
-        list[at],
-    );
-    let count = h / 0x100000 % 256;
-    let step = h / 0x80000000 % 2;
-    if count == 0 {
+    if h / 0x80000000 % 2 != 0 {
+        apply_rising(cells, fog, light, slots, held, list, at);
         return;
     }
-    if (step == 0) & ((0xE8 <= id) & (id <= 0xEF)) {
-        ports::upload_fog(cells, fog, list, at + 2, count);
+    if (0xE8 <= id) & (id <= 0xEF) {
+        ports::put_fog(cells, fog, list[at]);
+        ports::upload_fog(cells, fog, list, at + 2, h / 0x100000 % 256);
         return;
     }
-    if (step == 0) & ((0x1C8 <= id) & (id <= 0x1CF)) {
-        ports::upload_light(cells, light, list, at + 2, count);
+    if (0x1C8 <= id) & (id <= 0x1CF) {
+        ports::put_light(cells, light, list[at]);
+        ports::upload_light(cells, light, list, at + 2, h / 0x100000 % 256);
         return;
     }
-    apply_rest(cells, fog, light, slots, held, list, at);
+    apply_same(cells, slots, held, list, at);
 }
 
 // A well-formed list's expansion, one masked write after another.

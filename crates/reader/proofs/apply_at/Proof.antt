@@ -1,10 +1,7 @@
--- The first write, and then the rest by what they are: each way out is one call more. Assumes nothing.
-use mathlib.Core.Path.{_≡_, sym, _∙_}
-use Prim.Native.Nat.{_+_, _<_}
+-- Each way out is one kind of command. Assumes nothing.
+use mathlib.Core.Path.{_≡_, sym}
+use Prim.Native.Nat.{_<_}
 use native.Mathlib.Omega.{arith}
-use lib.ListN.{length}
-use Rattle.registers.specs.State.{st}
-use Rattle.reader.proofs.Applying.{expand-first, rest-none}
 use Rattle.reader.proofs.Uploads.{fog-command, light-command}
 use borrow.Author.Needs.{needs}
 use Rattle.reader.proofs.apply_at.Statement.{statement}
@@ -19,17 +16,8 @@ mul-h c = search needs
 shared-slice-read-h : tie.Need-shared-slice-read-h
 shared-slice-read-h c = search needs
 
-spread-mask-requires : tie.Need-spread-mask-requires
-spread-mask-requires c κs = search needs
-
-mul-put-one : tie.Need-mul-put-one
-mul-put-one c = search needs
-
-shared-slice-read-put-one : tie.Need-shared-slice-read-put-one
-shared-slice-read-put-one c = search needs
-
-put-one-requires : tie.Need-put-one-requires
-put-one-requires c κs = search needs
+apply-rising-requires : tie.Need-apply-rising-requires
+apply-rising-requires c κs = search needs
 
 same-length : tie.Need-same-length
 same-length c = search needs
@@ -41,10 +29,16 @@ same-length-3 : tie.Need-same-length-3
 same-length-3 c = search needs
 
 returns : tie.Need-returns
-returns c =
-    let a = c .before .before .before .before .before .before .before .before .before .before .before .before .before .before .before .before .before .before .args in
-    rw (c .before .before .before .before .before .before .before .put-one .ensures, c .before .before .before .before .before .before .before .before .before .spread-mask .ensures, expand-first (a .list .now) (a .at) (st (a .cells .now) (a .fog .now) (a .light .now)))
-    (sym (rest-none (a .list .now) (a .at) _ (c .if1 .taken)))
+returns c = search needs
+
+mul-put-fog : tie.Need-mul-put-fog
+mul-put-fog c = search needs
+
+shared-slice-read-put-fog : tie.Need-shared-slice-read-put-fog
+shared-slice-read-put-fog c = search needs
+
+put-fog-requires : tie.Need-put-fog-requires
+put-fog-requires c κs = search needs
 
 add-upload-fog : tie.Need-add-upload-fog
 add-upload-fog c = search needs
@@ -58,15 +52,21 @@ same-length-4 c = search needs
 same-length-5 : tie.Need-same-length-5
 same-length-5 c = search needs
 
-same-length-6 : tie.Need-same-length-6
-same-length-6 c = search needs
-
 returns-2 : tie.Need-returns-2
 returns-2 c =
-    let a = c .before .before .before .before .before .before .before .before .before .before .before .before .before .before .before .before .before .before .before .before .before .before .before .before .before .before .args in
-    let e = rw (c .before .before .before .before .before .before .before .before .before .before .before .before .before .before .before .before .before .spread-mask .ensures) at (c .before .before .before .before .before .before .before .before .before .before .before .before .before .before .before .put-one .ensures) in
-    rw (c .before .before .before .before .upload-fog .ensures .0, c .before .before .before .before .upload-fog .ensures .1)
-    (fog-command (a .list .now) (a .at) _ _ _ _ e (c .before .before .before .before .before .before .before .if2 .taken) (omega (arith, c .before .before .before .before .before .before .before .before .before .before .before .before .before .before .before .put-one .kept .0, c .before .before .before .before .before .before .before .before .before .before .before .before .before .before .before .before .before .before .before .before .before .before .before .before .before .before .pre .0 .0)))
+    let s = c .before .before .before .before .before .before .before .before .before .before .before .before .before .before .before .before .before .before .before .before .before .before in
+    let a = s .args in
+    rw (c .before .before .before .before .upload-fog .ensures .0, c .before .before .before .before .upload-fog .ensures .1, c .before .before .before .before .before .before .before .before .before .before .before .put-fog .ensures .0, c .before .before .before .before .before .before .before .before .before .before .before .put-fog .ensures .1)
+    (sym (fog-command (a .list .now) (a .at) (c .before .before .before .before .before .before .before .before .before .before .before .before .before .before .before .before .if1 .left) (a .cells .now) (a .fog .now) (a .light .now) (c .before .before .before .before .before .before .before .before .before .before .before .before .before .before .before .if2 .taken) (omega (arith, s .pre .0 .0))))
+
+mul-put-light : tie.Need-mul-put-light
+mul-put-light c = search needs
+
+shared-slice-read-put-light : tie.Need-shared-slice-read-put-light
+shared-slice-read-put-light c = search needs
+
+put-light-requires : tie.Need-put-light-requires
+put-light-requires c κs = search needs
 
 add-upload-light : tie.Need-add-upload-light
 add-upload-light c = search needs
@@ -74,42 +74,28 @@ add-upload-light c = search needs
 upload-light-requires : tie.Need-upload-light-requires
 upload-light-requires c κs = search needs
 
+same-length-6 : tie.Need-same-length-6
+same-length-6 c = search needs
+
 same-length-7 : tie.Need-same-length-7
 same-length-7 c = search needs
+
+returns-3 : tie.Need-returns-3
+returns-3 c =
+    let s = c .before .before .before .before .before .before .before .before .before .before .before .before .before .before .before .before .before .before .before .before .before .before .before in
+    let a = s .args in
+    rw (c .before .before .before .before .upload-light .ensures .0, c .before .before .before .before .upload-light .ensures .1, c .before .before .before .before .before .before .before .before .before .before .before .put-light .ensures .0, c .before .before .before .before .before .before .before .before .before .before .before .put-light .ensures .1)
+    (sym (light-command (a .list .now) (a .at) (c .before .before .before .before .before .before .before .before .before .before .before .before .before .before .before .before .before .if1 .left) (a .cells .now) (a .fog .now) (a .light .now) (c .before .before .before .before .before .before .before .before .before .before .before .before .before .before .before .if3 .taken) (omega (arith, s .pre .0 .0))))
+
+apply-same-requires : tie.Need-apply-same-requires
+apply-same-requires c κs = search needs
 
 same-length-8 : tie.Need-same-length-8
 same-length-8 c = search needs
 
-same-length-9 : tie.Need-same-length-9
-same-length-9 c = search needs
-
-returns-3 : tie.Need-returns-3
-returns-3 c =
-    let a = c .before .before .before .before .before .before .before .before .before .before .before .before .before .before .before .before .before .before .before .before .before .before .before .before .before .before .before .args in
-    let e = rw (c .before .before .before .before .before .before .before .before .before .before .before .before .before .before .before .before .before .before .spread-mask .ensures) at (c .before .before .before .before .before .before .before .before .before .before .before .before .before .before .before .before .put-one .ensures) in
-    rw (c .before .before .before .before .upload-light .ensures .0, c .before .before .before .before .upload-light .ensures .1)
-    (light-command (a .list .now) (a .at) _ _ _ _ e (c .before .before .before .before .before .before .before .if3 .taken) (omega (arith, c .before .before .before .before .before .before .before .before .before .before .before .before .before .before .before .before .put-one .kept .0, c .before .before .before .before .before .before .before .before .before .before .before .before .before .before .before .before .before .before .before .before .before .before .before .before .before .before .before .pre .0 .0)))
-
-apply-rest-requires : tie.Need-apply-rest-requires
-apply-rest-requires c κs =
-    let s = c .before .before .before .before .before .before .before .before .before .before .before .before .before .before .before .before .before .before .before .before .before .before .before in
-    let k = c .before .before .before .before .before .before .before .before .before .before .before .before .put-one .kept in
-    ((omega (arith, k .0, s .pre .0 .0), omega (arith, k .1 .0, s .pre .0 .1), omega (arith, k .1 .1 .0, s .pre .0 .2), s .pre .0 .3, s .pre .0 .4), s .pre .1)
-
-same-length-10 : tie.Need-same-length-10
-same-length-10 c = search needs
-
-same-length-11 : tie.Need-same-length-11
-same-length-11 c = search needs
-
-same-length-12 : tie.Need-same-length-12
-same-length-12 c = search needs
-
 returns-4 : tie.Need-returns-4
 returns-4 c =
-    let a = c .before .before .before .before .before .before .before .before .before .before .before .before .before .before .before .before .before .before .before .before .before .before .before .before .before .before .before .before .before .before .args in
-    rw (c .before .before .before .before .before .before .apply-rest .ensures, c .before .before .before .before .before .before .before .before .before .before .before .before .before .before .before .before .before .before .before .put-one .ensures, c .before .before .before .before .before .before .before .before .before .before .before .before .before .before .before .before .before .before .before .before .before .spread-mask .ensures)
-    (sym (expand-first (a .list .now) (a .at) (st (a .cells .now) (a .fog .now) (a .light .now))))
+    let a = c .before .before .before .before .before .before .before .before .before .before .before .before .args in c .before .before .apply-same .ensures (a .fog .now) (a .light .now)
 
 pub apply-at-spec : {M : Type 1} → statement M
 apply-at-spec =
@@ -118,28 +104,27 @@ apply-at-spec =
     add-h
     mul-h
     shared-slice-read-h
-    spread-mask-requires
-    mul-put-one
-    shared-slice-read-put-one
-    put-one-requires
+    apply-rising-requires
     same-length
     same-length-2
     same-length-3
     returns
+    mul-put-fog
+    shared-slice-read-put-fog
+    put-fog-requires
     add-upload-fog
     upload-fog-requires
     same-length-4
     same-length-5
-    same-length-6
     returns-2
+    mul-put-light
+    shared-slice-read-put-light
+    put-light-requires
     add-upload-light
     upload-light-requires
+    same-length-6
     same-length-7
-    same-length-8
-    same-length-9
     returns-3
-    apply-rest-requires
-    same-length-10
-    same-length-11
-    same-length-12
+    apply-same-requires
+    same-length-8
     returns-4)
