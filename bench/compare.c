@@ -126,10 +126,10 @@ static int compare_packs(void) {
 /* Mostly a state that can be drawn with; else one register or one depth is random. */
 static void random_state(struct state *s, uint32_t given[PICA_GIVEN]) {
     static const uint16_t coded[] = {0xC0, 0xC9, 0xD2, 0xDC, 0xE0, 0xF2, 0xFA, 0xFC, 0x100, 0x101, 0x116, 0x117};
-    valid_state(s);
+    valid_cells(s->cells);
     if (below(2)) s->cells[0x107] |= 0x1F00; /* without it few fragments write a whole colour */
     if (below(4) == 0) s->cells[coded[below(12)]] = any();
-    valid_given(given, s);
+    valid_given(given, s->cells);
     if (below(16) == 0) given[below(2) ? PICA_GIVEN_INCOMING_DEPTH : PICA_GIVEN_STORED_DEPTH] = any() >> below(17);
 }
 
