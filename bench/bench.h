@@ -61,14 +61,14 @@ void two_at_work(uint32_t *cells);
 void six_at_work(uint32_t *cells);
 
 /* workloads.c: what is measured. Both versions are handed the same, and each leaves what it leaves in a side of its own. */
-enum { CALLS = 256 }; /* of a round, where a call is a write, a decoding or a fragment */
+enum { CALLS = 1024 }; /* of a round, where a call is a decoding or a fragment */
 
 struct side {
     struct state state;
     uint32_t space[2 * PICA_MOST_WRITES];
     uint32_t fields[PICA_FIELDS];
     uint32_t stored[CALLS][PICA_STORED];
-    uint64_t answers[CALLS];
+    uint64_t answers[CALLS]; /* of the last calls */
 };
 
 enum call { READ, WRITE, PACK, DECODE, FRAGMENT };
@@ -76,10 +76,10 @@ enum call { READ, WRITE, PACK, DECODE, FRAGMENT };
 struct workload {
     const char *what;
     enum call call;
+    size_t each, times;                  /* the words of a list, the writes of a run, or the calls for which a state stays; and how often in a round */
     void (*list)(struct list *, size_t); /* of a reading */
     void (*run)(struct run *, size_t);   /* of a packing or of single writes */
-    void (*drawn)(uint32_t *);           /* of a fragment or a decoding: makes one state's cells */
-    size_t amount;                       /* words, writes, or states */
+    void (*drawn)(uint32_t *);           /* of a decoding or a fragment: makes the cells of a state */
     uint32_t number;                     /* the refusal that the calls must give, 0 for none */
 };
 
