@@ -61,7 +61,7 @@ void two_at_work(uint32_t *cells);
 void six_at_work(uint32_t *cells);
 
 /* workloads.c: what is measured. Both versions are handed the same, and each leaves what it leaves in a side of its own. */
-enum { CALLS = 1024 }; /* of a round, where a call is a decoding or a fragment */
+enum { CALLS = 4096 }; /* of a round, where a call is a decoding or a fragment */
 
 struct side {
     struct state state;
