@@ -168,14 +168,14 @@ static uint32_t coded_id(void) {
     return below(2) ? bases[below(6)] + parts[below(4)] : others[below(5)];
 }
 
-static void nearly(uint32_t *cell) { *cell ^= UINT32_C(1) << below(32); }
-
-/* Some stages become idle, or idle but for one bit. */
+/* Some stages become idle, or idle but for one bit of the codes that make it so. */
 static void idle_stages(uint32_t *cells) {
+    static const uint8_t parts[] = {0, 1, 2, 4}, alphas[] = {16, 12, 16, 16};
     for (uint32_t b = 0xC0; b <= 0xF8; b += 8) {
         if (b == 0xE0 || b == 0xE8 || below(2)) continue;
         idle_stage(&cells[b]);
-        if (below(8) == 0) nearly(&cells[b + below(5)]);
+        uint32_t k = below(4);
+        if (below(4) == 0) cells[b + parts[k]] ^= UINT32_C(1) << (below(4) + below(2) * alphas[k]);
     }
 }
 
@@ -187,10 +187,7 @@ static void random_state(struct state *s, uint32_t given[PICA_GIVEN]) {
     if (below(3) == 0)
         for (uint32_t k = below(3); k < 3; k++) {
             uint32_t id = coded_id();
-            if (below(2))
-                s->cells[id] = any();
-            else
-                nearly(&s->cells[id]);
+            s->cells[id] = below(2) ? any() : s->cells[id] ^ UINT32_C(1) << below(32);
         }
     valid_given(given, s->cells);
     if (below(16) == 0) given[below(2) ? PICA_GIVEN_INCOMING_DEPTH : PICA_GIVEN_STORED_DEPTH] = any() >> below(17);
