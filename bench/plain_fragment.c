@@ -11,7 +11,6 @@ struct rgb {
     uint32_t r, g, b;
 };
 
-static inline uint32_t replaced(uint32_t a, uint32_t b, uint32_t c) { return (void)b, (void)c, a; }
 static inline uint32_t modulated(uint32_t a, uint32_t b, uint32_t c) { return (void)c, a * b / 255; }
 static inline uint32_t added(uint32_t a, uint32_t b, uint32_t c) { return (void)c, least(a + b, 255); }
 static inline uint32_t added_signed(uint32_t a, uint32_t b, uint32_t c) { return (void)c, a + b < 128 ? 0 : least(a + b - 128, 255); }
@@ -46,7 +45,7 @@ static inline struct rgb mixed_rgb(uint32_t mode, struct rgb a, struct rgb b, st
 
 static inline uint32_t mixed_alpha(uint32_t mode, uint32_t a, uint32_t b, uint32_t c) {
     switch (mode) {
-    case 0: return replaced(a, b, c);
+    case 0: return a;
     case 1: return modulated(a, b, c);
     case 2: return added(a, b, c);
     case 3: return added_signed(a, b, c);
@@ -57,10 +56,11 @@ static inline uint32_t mixed_alpha(uint32_t mode, uint32_t a, uint32_t b, uint32
     }
 }
 
-/* Where an RGB operand's channels stand in its colour: the three in their places, or one of them three times. An odd code is one minus what the even code
- * before it names. */
-static inline struct rgb rgb_operand(uint32_t code, uint32_t colour) {
+/* Where an RGB operand's channels stand in its colour: the three in their places, or one of them three times. */
 #define PLACES(r, g, b) (r | g << 8 | b << 16)
+
+/* An odd code is one minus what the even code before it names. */
+static inline struct rgb rgb_operand(uint32_t code, uint32_t colour) {
     static const uint32_t places[8] = {PLACES(0, 8, 16), PLACES(24, 24, 24), PLACES(0, 0, 0), 0, PLACES(8, 8, 8), 0, PLACES(16, 16, 16), 0};
     uint32_t at = places[code >> 1], x = colour ^ -(code & 1);
     return (struct rgb){x >> (at & 31) & 255, x >> (at >> 8 & 31) & 255, x >> (at >> 16 & 31) & 255};
@@ -68,7 +68,7 @@ static inline struct rgb rgb_operand(uint32_t code, uint32_t colour) {
 
 static inline uint32_t alpha_operand(uint32_t code, uint32_t colour) { return (colour ^ -(code & 1)) >> ((8 * (code >> 1) + 24) & 31) & 255; }
 
-/* A stage that hands on what it sees as Previous. */
+/* A stage that hands on what it sees as Previous is passed over. */
 static inline int is_idle(const uint32_t *r) { return ((~r[0] & 0xF000F) | (r[1] & 0x700F) | (r[2] & 0xF000F) | (r[4] & 0x30003)) == 0; }
 
 static inline uint32_t scaled(uint32_t x, uint32_t by) { return least(x << by, 255); }
@@ -95,6 +95,7 @@ static uint32_t combine(const uint32_t *cells, const uint32_t *given) {
     static const uint16_t bases[6] = {0xC0, 0xC8, 0xD0, 0xD8, 0xF0, 0xF8};
     uint32_t colours[16], buffer = cells[0xFD], previous = 0;
     for (int k = 0; k < 7; k++) colours[k] = given[k];
+    /* each stage has branches of its own, and so the processor's guesses go by that stage's past */
 #pragma GCC unroll 6
     for (int k = 0; k < 6; k++) {
         const uint32_t *r = &cells[bases[k]];

@@ -29,7 +29,7 @@ static void find_links(const uint32_t *restrict ids, const uint32_t *restrict ma
     if (count == 0) return;
     for (size_t k = 0; k < count - 1; k++) {
         uint32_t by = ids[k + 1] - ids[k];
-        links[k] = (by > 1) | (masks[k] != masks[k + 1]) ? APART : (uint8_t)by;
+        links[k] = ((by > 1) | (masks[k] != masks[k + 1])) ? APART : (uint8_t)by;
     }
     links[count - 1] = APART;
 }
