@@ -10,7 +10,7 @@ const struct library plain = {plain_read, plain_write, plain_pack, plain_decode,
 #define PACKING(what, make, writes, runs) {"pack, a write: " what, PACK, writes, runs, NULL, make, NULL, 0}
 #define DRAWING(what, make, each) {"fragment: " what, FRAGMENT, each, CALLS / each, NULL, NULL, make, 0}
 
-/* Where chance decides, a round is so long that no processor learns it by heart. */
+/* Where chance decides, a round is long: a short one is learned by heart by the processor. */
 const struct workload workloads[] = {
     READING("short held commands", short_held, 32768, 2, 0),
     READING("light tables, 256 writes a command", light_uploads, 8192, 1, 0),
