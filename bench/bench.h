@@ -33,50 +33,60 @@ struct run {
 };
 
 /* make.c: numbers that look random and are the same in every run, and what is built from them. */
+void begin(void); /* from the first number again */
 uint32_t any(void);
 uint32_t below(uint32_t limit);
 uint32_t held_id(void);
 void fill(uint32_t *words, size_t length);
 void command(struct list *list, uint32_t id, uint32_t mask, uint32_t writes, uint32_t step);
-void valid_state(struct state *s);
-void mixed_tests(struct state *s);
-void valid_given(uint32_t given[PICA_GIVEN], const struct state *s);
+void idle_stage(uint32_t *registers);
+void valid_cells(uint32_t *cells);
+void mixed_tests(uint32_t *cells);
+void valid_given(uint32_t given[PICA_GIVEN], const uint32_t *cells);
 
 /* work.c: the workloads. */
 void short_held(struct list *list, size_t words);
 void light_uploads(struct list *list, size_t words);
 void fog_uploads(struct list *list, size_t words);
 void long_unheld(struct list *list, size_t words);
+void long_mixed(struct list *list, size_t words);
 void capture(struct list *list, size_t words);
 void refused_at_last(struct list *list, size_t words);
+void held_writes(struct run *run, size_t writes);
 void few_ids(struct run *run, size_t writes);
 void rising_ids(struct run *run, size_t writes);
 void equal_ids(struct run *run, size_t writes);
+void apart_ids(struct run *run, size_t writes);
+void two_at_work(uint32_t *cells);
+void six_at_work(uint32_t *cells);
 
 /* workloads.c: what is measured. Both versions are handed the same, and each leaves what it leaves in a side of its own. */
-#ifndef FRAGMENTS
-#define FRAGMENTS 64
-#endif
+enum { CALLS = 4096 }; /* of a round, where a call is a decoding or a fragment */
 
 struct side {
     struct state state;
     uint32_t space[2 * PICA_MOST_WRITES];
-    uint32_t stored[FRAGMENTS][PICA_STORED];
-    uint64_t answers[FRAGMENTS];
+    uint32_t fields[PICA_FIELDS];
+    uint32_t stored[CALLS][PICA_STORED];
+    uint64_t answers[CALLS]; /* of the last calls */
 };
+
+enum call { READ, WRITE, PACK, DECODE, FRAGMENT };
 
 struct workload {
     const char *what;
+    enum call call;
+    size_t each, times;                  /* the words of a list, the writes of a run, or the calls for which a state stays; and how often in a round */
     void (*list)(struct list *, size_t); /* of a reading */
-    void (*run)(struct run *, size_t);   /* of a packing */
-    size_t amount;                       /* words, writes, or states */
+    void (*run)(struct run *, size_t);   /* of a packing or of single writes */
+    void (*drawn)(uint32_t *);           /* of a decoding or a fragment: makes the cells of a state */
     uint32_t number;                     /* the refusal that the calls must give, 0 for none */
 };
 
-enum { WORKLOADS = 15 };
-extern const struct workload workloads[WORKLOADS];
+extern const struct workload workloads[];
+extern const size_t workload_count;
 
-/* Makes what the workload hands in, and answers how many words, writes or fragments make a round. */
+/* Makes what the workload hands in, and answers how many words, writes, states or fragments make a round. */
 size_t prepared(const struct workload *w);
 void work(const struct workload *w, const struct library *l, struct side *s, unsigned times);
 

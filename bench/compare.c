@@ -8,11 +8,33 @@ enum { READS = 40000, WRITES = 20000, PACKS = 30000, STATES = 30000 };
 
 static struct state left_by_ours, left_by_plain;
 
-static int alike(const char *what, unsigned which, uint64_t a, uint64_t b, const void *x, const void *y, size_t size) {
-    if (a == b && memcmp(x, y, size) == 0) return 1;
-    printf("%s case %u differs: ours %u, %u; plain %u, %u%s\n", what, which, (unsigned)pica_number(a), (unsigned)pica_value(a),
+/* How often each call was answered with each number, so that no rule goes untried unnoticed. */
+static const char *const names[] = {"read", "write", "pack", "decode", "fragment"};
+static unsigned met[5][15];
+
+static int alike(enum call call, unsigned which, uint64_t a, uint64_t b, const void *x, const void *y, size_t size) {
+    if (a == b && memcmp(x, y, size) == 0) {
+        met[call][pica_number(a)]++;
+        return 1;
+    }
+    printf("%s case %u differs: ours %u, %u; plain %u, %u%s\n", names[call], which, (unsigned)pica_number(a), (unsigned)pica_value(a),
            (unsigned)pica_number(b), (unsigned)pica_value(b), memcmp(x, y, size) ? "; the buffers too" : "");
     return 0;
+}
+
+/* Every number that a call can answer with was met at least ten times, and a third of the calls were answered. */
+static int all_met(void) {
+    static const uint16_t numbers[5] = {0x7F, 0x279, 0x7B9, 0x2041, 0x7041}; /* a bit for each */
+    for (int call = 0; call < 5; call++) {
+        unsigned all = 0;
+        for (int k = 0; k < 15; k++) all += met[call][k];
+        for (int k = 0; k < 15; k++)
+            if ((numbers[call] >> k & 1) && met[call][k] < (k == 0 ? all / 3 : 10)) {
+                printf("%s: number %d was met in %u random cases only\n", names[call], k, met[call][k]);
+                return 0;
+            }
+    }
+    return 1;
 }
 
 static void new_states(void) {
@@ -47,17 +69,29 @@ static uint32_t edge_mask(uint32_t id) {
     return below(port ? 32 : 2) ? 15 : below(16);
 }
 
+static int is_data(uint32_t id) { return (id >= 0xE8 && id < 0xF0) || (id >= 0x1C8 && id < 0x1D0); }
+
+/* Rising ids that end near the edge of a range: before, at or beyond it. */
+static void over_the_edge(struct list *list) {
+    static const uint16_t edges[] = {0xE8, 0xF0, 0x1C8, 0x1D0, 0x23C, 0x23E, 0x300};
+    uint32_t writes = below(4) ? 1 + below(12) : 1 + below(256), last = edges[below(16) ? below(4) : 4 + below(3)] + below(4) - 2;
+    command(list, last < writes ? 0 : last + 1 - writes, below(16) ? 15 : below(16), writes, 1);
+}
+
 static void random_list(struct list *list) {
-    uint32_t commands = below(24);
+    uint32_t commands = below(20);
     list->length = 0;
     while (commands-- > 0) {
-        uint32_t id = edge_id(), writes = below(16) ? 1 + below(6) : 1 + below(256);
+        uint32_t id = edge_id(), writes = below(is_data(id) ? 2 : 16) ? 1 + below(6) : 1 + below(256);
         size_t at = list->length;
-        command(list, id, edge_mask(id), writes, below(2));
+        if (below(8))
+            command(list, id, edge_mask(id), writes, below(2));
+        else
+            over_the_edge(list);
         list->words[at + 1] |= below(8) << 28; /* any unused bits are accepted */
     }
     if (below(16) == 0 && list->length > 0) list->length -= 1 + below(list->length < 4 ? 1 : 3);
-    if (below(2000) == 0) list->length = PICA_MOST_WORDS + below(2); /* whatever stands there */
+    if (below(1000) == 0) list->length = PICA_MOST_WORDS + below(2); /* whatever stands there */
 }
 
 static int compare_reads(void) {
@@ -70,7 +104,7 @@ static int compare_reads(void) {
         struct state *a = &left_by_ours, *b = &left_by_plain;
         uint64_t x = ours.read(a->cells, n[0], a->fog, n[1], a->light, n[2], list.words, list.length);
         uint64_t y = plain.read(b->cells, n[0], b->fog, n[1], b->light, n[2], list.words, list.length);
-        if (!alike("read", k, x, y, a, b, sizeof *a)) return 0;
+        if (!alike(READ, k, x, y, a, b, sizeof *a)) return 0;
     }
     return 1;
 }
@@ -84,7 +118,7 @@ static int compare_writes(void) {
         struct state *a = &left_by_ours, *b = &left_by_plain;
         uint64_t x = ours.write(a->cells, n[0], a->fog, n[1], a->light, n[2], id, mask, value);
         uint64_t y = plain.write(b->cells, n[0], b->fog, n[1], b->light, n[2], id, mask, value);
-        if (!alike("write", k, x, y, a, b, sizeof *a)) return 0;
+        if (!alike(WRITE, k, x, y, a, b, sizeof *a)) return 0;
     }
     return 1;
 }
@@ -92,7 +126,7 @@ static int compare_writes(void) {
 /* Mostly short; the long ones have stretches beyond the 256 writes that a command can carry. */
 static void random_run(struct run *run) {
     uint32_t id = edge_id() % 0x240, mask = 15, turn = below(16) ? 4 : 400;
-    run->length = below(64) ? below(64) : below(16) ? below(2000) : PICA_MOST_WRITES - 1 + below(3);
+    run->length = below(64) ? below(64) : below(8) ? below(2000) : PICA_MOST_WRITES - 1 + below(3);
     uint32_t rises = below(2);
     for (size_t k = 0; k < run->length; k++) {
         if (below(turn) == 0) rises = below(2);
@@ -100,10 +134,15 @@ static void random_run(struct run *run) {
         if (below(4 * turn) == 0) mask = below(16) ? below(2) ? 15 : 3 : below(20);
         if ((id >= 0xE0 && id < 0xF0) || (id >= 0x1C0 && id < 0x1D0)) mask = 15;
         if (id > 0x238) id = 0x120;
-        run->ids[k] = below(4000) ? id : edge_id();
+        run->ids[k] = id;
         run->masks[k] = mask;
         run->values[k] = any();
         id += rises;
+    }
+    if (below(16) == 0 && run->length > 0) { /* one write that is at fault, or nearly */
+        uint32_t k = below((uint32_t)run->length);
+        run->ids[k] = below(2) ? 0x23B + below(4) : edge_id();
+        run->masks[k] = below(2) ? 15 : below(20);
     }
 }
 
@@ -118,18 +157,39 @@ static int compare_packs(void) {
         if (below(64) == 0 && run.length > 0) n[below(3)]--;
         uint64_t x = ours.pack(run.ids, n[0], run.masks, n[1], run.values, n[2], spaces[0], room);
         uint64_t y = plain.pack(run.ids, n[0], run.masks, n[1], run.values, n[2], spaces[1], room);
-        if (!alike("pack", k, x, y, spaces[0], spaces[1], sizeof spaces[0])) return 0;
+        if (!alike(PACK, k, x, y, spaces[0], spaces[1], sizeof spaces[0])) return 0;
     }
     return 1;
 }
 
-/* Mostly a state that can be drawn with; else one register or one depth is random. */
+/* Any register with codes. */
+static uint32_t coded_id(void) {
+    static const uint16_t bases[] = {0xC0, 0xC8, 0xD0, 0xD8, 0xF0, 0xF8}, parts[] = {0, 1, 2, 4}, others[] = {0xE0, 0x100, 0x101, 0x116, 0x117};
+    return below(2) ? bases[below(6)] + parts[below(4)] : others[below(5)];
+}
+
+/* Some stages become idle, or idle but for one bit of the codes that make it so. */
+static void idle_stages(uint32_t *cells) {
+    static const uint8_t parts[] = {0, 1, 2, 4}, alphas[] = {16, 12, 16, 16};
+    for (uint32_t b = 0xC0; b <= 0xF8; b += 8) {
+        if (b == 0xE0 || b == 0xE8 || below(2)) continue;
+        idle_stage(&cells[b]);
+        uint32_t k = below(4);
+        if (below(4) == 0) cells[b + parts[k]] ^= UINT32_C(1) << (below(4) + below(2) * alphas[k]);
+    }
+}
+
+/* Mostly a state that can be drawn with, often with idle stages; else up to three registers or one depth are random, or a single bit of them. */
 static void random_state(struct state *s, uint32_t given[PICA_GIVEN]) {
-    static const uint16_t coded[] = {0xC0, 0xC9, 0xD2, 0xDC, 0xE0, 0xF2, 0xFA, 0xFC, 0x100, 0x101, 0x116, 0x117};
-    valid_state(s);
+    valid_cells(s->cells);
     if (below(2)) s->cells[0x107] |= 0x1F00; /* without it few fragments write a whole colour */
-    if (below(4) == 0) s->cells[coded[below(12)]] = any();
-    valid_given(given, s);
+    if (below(2)) idle_stages(s->cells);
+    if (below(3) == 0)
+        for (uint32_t k = below(3); k < 3; k++) {
+            uint32_t id = coded_id();
+            s->cells[id] = below(2) ? any() : s->cells[id] ^ UINT32_C(1) << below(32);
+        }
+    valid_given(given, s->cells);
     if (below(16) == 0) given[below(2) ? PICA_GIVEN_INCOMING_DEPTH : PICA_GIVEN_STORED_DEPTH] = any() >> below(17);
 }
 
@@ -142,15 +202,15 @@ static int compare_states(void) {
         lengths(n);
         uint64_t x = ours.decode(s->cells, n[0], s->fog, n[1], s->light, n[2], fields[0]);
         uint64_t y = plain.decode(s->cells, n[0], s->fog, n[1], s->light, n[2], fields[1]);
-        if (!alike("decode", k, x, y, fields[0], fields[1], sizeof fields[0])) return 0;
+        if (!alike(DECODE, k, x, y, fields[0], fields[1], sizeof fields[0])) return 0;
         x = ours.fragment(s->cells, n[0], s->fog, n[1], s->light, n[2], given, stored[0]);
         y = plain.fragment(s->cells, n[0], s->fog, n[1], s->light, n[2], given, stored[1]);
-        if (!alike("fragment", k, x, y, stored[0], stored[1], sizeof stored[0])) return 0;
+        if (!alike(FRAGMENT, k, x, y, stored[0], stored[1], sizeof stored[0])) return 0;
     }
     return 1;
 }
 
 unsigned compare_random(void) {
-    if (!compare_reads() || !compare_writes() || !compare_packs() || !compare_states()) return 0;
+    if (!compare_reads() || !compare_writes() || !compare_packs() || !compare_states() || !all_met()) return 0;
     return READS + WRITES + PACKS + STATES;
 }

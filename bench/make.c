@@ -1,7 +1,12 @@
 #include "bench.h"
 
+#define FIRST UINT64_C(0x9E3779B97F4A7C15)
+
+static uint64_t x = FIRST;
+
+void begin(void) { x = FIRST; }
+
 uint32_t any(void) {
-    static uint64_t x = UINT64_C(0x9E3779B97F4A7C15);
     x ^= x >> 12;
     x ^= x << 25;
     x ^= x >> 27;
@@ -53,33 +58,41 @@ static void valid_stage(uint32_t *r) {
     r[4] = (any() & 0xFFFCFFFC) | below(3) | below(3) << 16;
 }
 
+/* A valid stage becomes one that hands on what it sees as Previous; the operands that it doesn't use stay as they are. */
+void idle_stage(uint32_t *r) {
+    r[0] |= 0xF000F;
+    r[1] &= ~UINT32_C(0x700F);
+    r[2] &= ~UINT32_C(0xF000F);
+    r[4] &= ~UINT32_C(0x30003);
+}
+
 /* A state that a fragment can be drawn with; all else in it is random, the bits that no register holds too. */
-void valid_state(struct state *s) {
-    fill(s->cells, PICA_CELLS);
+void valid_cells(uint32_t *cells) {
+    fill(cells, PICA_CELLS);
     for (uint32_t b = 0xC0; b <= 0xF8; b += 8)
-        if (b != 0xE0 && b != 0xE8) valid_stage(&s->cells[b]);
-    s->cells[0xE0] &= ~UINT32_C(7);
-    s->cells[0x100] &= ~UINT32_C(0x3000103);
-    s->cells[0x101] &= 0x7777FFFF;
-    s->cells[0x116] = (any() & ~UINT32_C(3)) | (below(4) ? 3 : below(2) * 2);
-    s->cells[0x117] = (any() & ~UINT32_C(0x70003)) | 2;
+        if (b != 0xE0 && b != 0xE8) valid_stage(&cells[b]);
+    cells[0xE0] &= ~UINT32_C(7);
+    cells[0x100] &= ~UINT32_C(0x3000103);
+    cells[0x101] &= 0x7777FFFF;
+    cells[0x116] = (any() & ~UINT32_C(3)) | (below(4) ? 3 : below(2) * 2);
+    cells[0x117] = (any() & ~UINT32_C(0x70003)) | 2;
 }
 
 /* All three tests are made, and each of them fails some of the fragments. */
-void mixed_tests(struct state *s) {
-    s->cells[0x102] = 3;
-    s->cells[0x104] = 0x2061;     /* alpha greater than 20h */
-    s->cells[0x105] = 0x0301FF31; /* the low two bits of the stencil are not 1 */
-    s->cells[0x106] = 0x643;
-    s->cells[0x107] = 0x1F51; /* depth at most the stored one */
-    s->cells[0x113] = 15;
-    s->cells[0x115] = 3;
-    s->cells[0x116] = 3;
+void mixed_tests(uint32_t *cells) {
+    cells[0x102] = 3;
+    cells[0x104] = 0x2061;     /* alpha greater than 20h */
+    cells[0x105] = 0x0301FF31; /* the low two bits of the stencil are not 1 */
+    cells[0x106] = 0x643;
+    cells[0x107] = 0x1F51; /* depth at most the stored one */
+    cells[0x113] = 15;
+    cells[0x115] = 3;
+    cells[0x116] = 3;
 }
 
 /* Depths that the state's format allows; often equal, so that every comparison has both answers. */
-void valid_given(uint32_t given[PICA_GIVEN], const struct state *s) {
-    uint32_t depths = s->cells[0x116] & 3 ? 0x1000000 : 0x10000;
+void valid_given(uint32_t given[PICA_GIVEN], const uint32_t *cells) {
+    uint32_t depths = cells[0x116] & 3 ? 0x1000000 : 0x10000;
     fill(given, PICA_GIVEN);
     given[PICA_GIVEN_INCOMING_DEPTH] = below(depths);
     given[PICA_GIVEN_STORED_DEPTH] = below(4) ? below(depths) : given[PICA_GIVEN_INCOMING_DEPTH];

@@ -28,57 +28,129 @@ static inline struct command command_of(uint32_t header) {
     return c;
 }
 
+/* JUDGING */
+
+static inline int meets(uint32_t first, uint32_t last, uint32_t from, uint32_t to) { return (first <= to) & (last >= from); }
+
+/* Whether a write with this mask to an id of first..last can be at fault; no branch, since which test decides changes from command to command. */
+static inline int can_fail(uint32_t first, uint32_t last, uint32_t mask) {
+    return (last > 0x2FF) | meets(first, last, 0x23C, 0x23D) | ((mask != 15) & (meets(first, last, 0xE8, 0xEF) | meets(first, last, 0x1C8, 0x1CF)));
+}
+
+/* The first fault of a command that has one. */
+static uint32_t fault_of(struct command c) {
+    for (;; c.id++) {
+        uint32_t number = plain_fault(c.id, c.mask);
+        if (number) return number;
+    }
+}
+
 /* The number of writes, or the refusal. */
 static uint64_t judge(const uint32_t *list, size_t length) {
+    const uint32_t *at = list;
     size_t writes = 0;
-    for (size_t at = 0; at < length;) {
-        if (length - at < 2) return plain_refused(PICA_WORDS_MISSING, (uint32_t)at);
-        struct command c = command_of(list[at + 1]);
-        if (length - at < c.words) return plain_refused(PICA_WORDS_MISSING, (uint32_t)at);
-        for (uint32_t k = 0; k <= c.step * c.count; k++) {
-            uint32_t number = plain_fault(c.id + k, c.mask);
-            if (number) return plain_refused(number, (uint32_t)at);
-        }
+    for (size_t left = length; left > 0;) {
+        if (left < 2) return plain_refused(PICA_WORDS_MISSING, (uint32_t)(at - list));
+        struct command c = command_of(at[1]);
+        if (left < c.words) return plain_refused(PICA_WORDS_MISSING, (uint32_t)(at - list));
+        if (can_fail(c.id, c.id + c.step * c.count, c.mask)) return plain_refused(fault_of(c), (uint32_t)(at - list));
         writes += c.count + 1;
         at += c.words;
+        left -= c.words;
     }
     return writes;
 }
 
-static inline void put_low_24(uint32_t *entry, uint32_t value) { *entry = (*entry & 0xFF000000) | (value & 0xFFFFFF); }
+/* APPLYING: what was judged is applied without another look. The buffers are lent apart, so that the loops may go by several words at once. */
 
-static inline void put_fog(uint32_t *cells, uint32_t *fog, uint32_t value) {
-    uint32_t index = cells[0xE6] & 0x7F;
-    put_low_24(&fog[index], value);
-    cells[0xE6] = (cells[0xE6] & ~UINT32_C(0x7F)) | ((index + 1) & 0x7F);
+static inline uint32_t low_24(uint32_t entry, uint32_t value) { return (entry & 0xFF000000) | (value & 0xFFFFFF); }
+
+static inline uint32_t least(uint32_t a, uint32_t b) { return a < b ? a : b; }
+
+/* Entries from *index on, which returns to 0 after size - 1. */
+static inline void upload(uint32_t *restrict entries, uint32_t size, uint32_t *index, const uint32_t *restrict values, uint32_t count) {
+    while (count > 0) {
+        uint32_t part = least(count, size - *index), *restrict to = &entries[*index];
+        for (size_t k = 0; k < part; k++) to[k] = low_24(to[k], values[k]);
+        *index = (*index + part) & (size - 1);
+        values += part;
+        count -= part;
+    }
 }
 
-static inline void put_light(uint32_t *cells, uint32_t *light, uint32_t value) {
-    uint32_t at = cells[0x1C5], table = at >> 8 & 31;
-    if (table < 24 && table != 2 && table != 7) put_low_24(&light[at & 0x1FFF], value);
-    cells[0x1C5] = (at & ~UINT32_C(0xFF)) | ((at + 1) & 0xFF);
+/* The index is in a register, and stored once. */
+static inline void upload_fog(uint32_t *restrict cells, uint32_t *restrict fog, const uint32_t *restrict values, uint32_t count) {
+    uint32_t index = cells[0xE6] & 0x7F;
+    upload(fog, 128, &index, values, count);
+    cells[0xE6] = (cells[0xE6] & ~UINT32_C(0x7F)) | index;
+}
+
+static inline void upload_light(uint32_t *restrict cells, uint32_t *restrict light, const uint32_t *restrict values, uint32_t count) {
+    uint32_t at = cells[0x1C5], table = at >> 8 & 31, index = at & 0xFF;
+    if (table < 24 && table != 2 && table != 7)
+        upload(light + 256 * table, 256, &index, values, count);
+    else
+        index = (index + count) & 0xFF;
+    cells[0x1C5] = (at & ~UINT32_C(0xFF)) | index;
 }
 
 /* A byte of ones for each bit of the mask. */
 static inline uint32_t spread(uint32_t mask) { return (mask * 0x204081 & 0x1010101) * 0xFF; }
 
-static inline void put_one(uint32_t *cells, uint32_t *fog, uint32_t *light, uint32_t id, uint32_t bytes, uint32_t value) {
-    if (id - 0xE8 < 8) {
-        put_fog(cells, fog, value);
-    } else if (id - 0x1C8 < 8) {
-        put_light(cells, light, value);
-    } else {
-        uint32_t bits = held[id] & bytes;
-        cells[id] = (cells[id] & ~bits) | (value & bits);
+static inline void put_cell(uint32_t *cell, uint32_t bits, uint32_t value) { *cell ^= (*cell ^ value) & bits; }
+
+/* Ids that rise from `id` on, no port's data among them. */
+static inline void put_cells(uint32_t *restrict cells, uint32_t id, uint32_t bytes, const uint32_t *restrict values, uint32_t count) {
+    const uint32_t *bits = &held[id];
+    uint32_t *restrict to = &cells[id];
+    for (size_t k = 0; k < count; k++) put_cell(&to[k], bits[k] & bytes, values[k]);
+}
+
+static inline int is_fog(uint32_t id) { return id - 0xE8 < 8; }
+static inline int is_light(uint32_t id) { return id - 0x1C8 < 8; }
+
+static inline int is_port(uint32_t id) { return is_fog(id) | is_light(id); }
+
+static inline void put_port(uint32_t *restrict cells, uint32_t *restrict fog, uint32_t *restrict light, uint32_t id, const uint32_t *restrict values,
+                            uint32_t count) {
+    if (is_fog(id))
+        upload_fog(cells, fog, values, count);
+    else
+        upload_light(cells, light, values, count);
+}
+
+/* Rising ids, piece by piece where they meet a port's data. */
+static inline void put_rising(uint32_t *restrict cells, uint32_t *restrict fog, uint32_t *restrict light, uint32_t id, uint32_t bytes,
+                              const uint32_t *restrict values, uint32_t count) {
+    while (count > 0) {
+        uint32_t next = id < 0xE8 ? 0xE8 : id < 0xF0 ? 0xF0 : id < 0x1C8 ? 0x1C8 : id < 0x1D0 ? 0x1D0 : 0x300, part = least(count, next - id);
+        if (is_port(id))
+            put_port(cells, fog, light, id, values, part);
+        else
+            put_cells(cells, id, bytes, values, part);
+        id += part;
+        values += part;
+        count -= part;
     }
 }
 
-static void apply(uint32_t *cells, uint32_t *fog, uint32_t *light, const uint32_t *list, size_t length) {
-    for (size_t at = 0; at < length;) {
-        struct command c = command_of(list[at + 1]);
-        uint32_t bytes = spread(c.mask), id = c.id;
-        put_one(cells, fog, light, id, bytes, list[at]);
-        for (uint32_t k = 0; k < c.count; k++) put_one(cells, fog, light, id += c.step, bytes, list[at + 2 + k]);
+/* A command's first value stands before its header, the others after it. Of several writes to one register the last decides. */
+static void apply(uint32_t *restrict cells, uint32_t *restrict fog, uint32_t *restrict light, const uint32_t *restrict at, const uint32_t *end) {
+    while (at < end) {
+        struct command c = command_of(at[1]);
+        uint32_t bytes = spread(c.mask);
+        if (is_port(c.id)) {
+            put_port(cells, fog, light, c.id, at, 1);
+            if (c.step)
+                put_rising(cells, fog, light, c.id + 1, bytes, at + 2, c.count);
+            else
+                put_port(cells, fog, light, c.id, at + 2, c.count);
+        } else if (c.step) {
+            put_cell(&cells[c.id], held[c.id] & bytes, at[0]);
+            put_rising(cells, fog, light, c.id + 1, bytes, at + 2, c.count);
+        } else {
+            put_cell(&cells[c.id], held[c.id] & bytes, at[c.count + (c.count > 0)]);
+        }
         at += c.words;
     }
 }
@@ -88,7 +160,7 @@ uint64_t plain_read(uint32_t *cells, size_t cells_length, uint32_t *fog, size_t 
     if (!plain_is_sized(cells_length, fog_length, light_length)) return plain_refused(PICA_BUFFER_LENGTH, 0);
     if (list_length > PICA_MOST_WORDS) return plain_refused(PICA_LIST_TOO_LONG, 0);
     uint64_t answer = judge(list, list_length);
-    if (pica_number(answer) == 0) apply(cells, fog, light, list, list_length);
+    if (pica_number(answer) == 0) apply(cells, fog, light, list, list + list_length);
     return answer;
 }
 
@@ -98,6 +170,9 @@ uint64_t plain_write(uint32_t *cells, size_t cells_length, uint32_t *fog, size_t
     if (mask > 15) return plain_refused(PICA_MASK_ABOVE_15, 0);
     uint32_t number = plain_fault(id, mask);
     if (number) return plain_refused(number, 0);
-    put_one(cells, fog, light, id, spread(mask), value);
+    if (is_port(id))
+        put_port(cells, fog, light, id, &value, 1);
+    else
+        put_cell(&cells[id], held[id] & spread(mask), value);
     return 0;
 }

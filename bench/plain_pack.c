@@ -4,52 +4,85 @@
 /* The words of a command that carries this many writes. */
 static inline uint32_t words_of(uint32_t writes) { return (writes + 2) & ~UINT32_C(1); }
 
-static uint64_t check(const uint32_t *ids, const uint32_t *masks, size_t count) {
-    for (size_t k = 0; k < count; k++) {
-        if (masks[k] > 15) return plain_refused(PICA_MASK_ABOVE_15, (uint32_t)k);
-        uint32_t number = plain_fault(ids[k], masks[k]);
-        if (number) return plain_refused(number, (uint32_t)k);
+/* The first write at fault, where there is one. */
+static uint64_t refused(const uint32_t *ids, const uint32_t *masks) {
+    for (uint32_t k = 0;; k++) {
+        uint32_t number = masks[k] > 15 ? PICA_MASK_ABOVE_15 : plain_fault(ids[k], masks[k]);
+        if (number) return plain_refused(number, k);
     }
-    return 0;
+}
+
+/* All tests of all writes are joined without a branch, so that the loop may go by several writes at once. */
+static int any_fails(const uint32_t *restrict ids, const uint32_t *restrict masks, size_t count) {
+    uint32_t fails = 0;
+    for (size_t k = 0; k < count; k++) {
+        uint32_t eight = ids[k] & ~UINT32_C(7);
+        fails |= (masks[k] > 15) | (ids[k] > 0x2FF) | ((ids[k] | 1) == 0x23D) | (((eight == 0xE8) | (eight == 0x1C8)) & (masks[k] != 15));
+    }
+    return fails != 0;
+}
+
+/* How a write goes with the next one: their ids are equal, rise, or neither; a difference of masks is neither. */
+enum { EQUAL = 0, RISING = 1, APART = 2 };
+
+static void find_links(const uint32_t *restrict ids, const uint32_t *restrict masks, size_t count, uint8_t *restrict links) {
+    if (count == 0) return;
+    for (size_t k = 0; k < count - 1; k++) {
+        uint32_t by = ids[k + 1] - ids[k];
+        links[k] = ((by > 1) | (masks[k] != masks[k + 1])) ? APART : (uint8_t)by;
+    }
+    links[count - 1] = APART;
 }
 
 /*
  * Sets take[k] to the writes of the command that begins with write k, and answers the words of the whole list. Only two lengths need a look: the
  * longest that a command can carry, and one less. A cut further forward leaves two commands that could be one, or of which the first could take two
- * more writes from the second at the same cost. Where both cost the same, the longer one has the more writes.
+ * more writes from the second at the same cost. Where both cost the same, the longer one has the more writes; so one less is of use only where it saves
+ * the padding word: after an even number of writes, where the next command takes the last of them in at no cost.
+ *
+ * As long as a run isn't longer than a command, all its writes reach to the same end, so that what counts there stays in registers. A run of one or of
+ * two costs two words more than what follows its first write: a second write goes in the padding's place, or it is cut off.
  */
-static uint32_t plan(const uint32_t *ids, const uint32_t *masks, uint32_t count, uint16_t *take) {
-    uint16_t cost[PICA_MOST_WRITES + 1];
-    uint32_t same = 0, rising = 0;
-    cost[count] = 0;
+static uint32_t plan(const uint8_t *restrict links, uint32_t count, uint16_t *restrict take) {
+    uint16_t costs[PICA_MOST_WRITES];
+    uint32_t next = 0, after = 0;                     /* the costs from the next write on, and from the one after it */
+    uint32_t kind = APART, run = 0, end = 0, cut = 0; /* of the run that begins here: its writes, the cost after it, whether it may end one earlier */
     for (uint32_t k = count; k-- > 0;) {
-        int alike = k + 1 < count && masks[k] == masks[k + 1];
-        same = alike && ids[k] == ids[k + 1] ? same + 1 : 1;
-        rising = alike && ids[k] + 1 == ids[k + 1] ? rising + 1 : 1;
-        uint32_t most = same > rising ? same : rising;
-        if (most > 256) most = 256;
-        uint32_t words = words_of(most) + cost[k + most];
-        if (most > 1) {
-            uint32_t fewer = words_of(most - 1) + cost[k + most - 1];
-            if (fewer < words) {
-                words = fewer;
-                most--;
-            }
+        uint32_t link = links[k], joins = link != APART, goes_on = joins & (link == kind);
+        run = 1 + (goes_on ? run : joins);
+        end = goes_on ? end : after;
+        cut = goes_on ? cut : next == after;
+        kind = link;
+        uint32_t most = run, shorter = ~run & cut & 1, cost = goes_on ? end + words_of(run) - 2 * shorter : next + 2;
+        if (run > 256) {
+            most = 256;
+            shorter = costs[k + 255] < costs[k + 256] + 2;
+            cost = shorter ? costs[k + 255] + 256u : costs[k + 256] + 258u;
         }
-        cost[k] = (uint16_t)words;
-        take[k] = (uint16_t)most;
+        take[k] = (uint16_t)(most - shorter);
+        costs[k] = (uint16_t)cost;
+        after = next;
+        next = cost;
     }
-    return cost[0];
+    return next;
 }
 
-static void lay_out(const uint32_t *ids, const uint32_t *masks, const uint32_t *values, uint32_t count, const uint16_t *take, uint32_t *space) {
-    for (uint32_t k = 0; k < count;) {
-        uint32_t writes = take[k], step = writes > 1 && ids[k] != ids[k + 1];
-        *space++ = values[k];
-        *space++ = ids[k] | masks[k] << 16 | (writes - 1) << 20 | step << 31;
-        for (uint32_t j = 1; j < writes; j++) *space++ = values[k + j];
-        if (writes % 2 == 0) *space++ = 0;
+static void lay_out(const uint32_t *restrict ids, const uint32_t *restrict masks, const uint32_t *restrict values, uint32_t count,
+                    const uint8_t *restrict links, const uint16_t *restrict take, uint32_t *restrict space, uint32_t words) {
+    uint32_t k = 0, at = 0;
+    while (k < count) {
+        uint32_t writes = take[k], step = (links[k] == RISING) & (writes > 1), *to = space + at;
+        to[0] = values[k];
+        to[1] = ids[k] | masks[k] << 16 | (writes - 1) << 20 | step << 31;
+        if (writes <= 3 && k + 3 <= count && at + 4 <= words) { /* a short one without a loop: the next command overwrites what is too much */
+            to[2] = values[k + 1];
+            to[3] = writes == 3 ? values[k + 2] : 0;
+        } else {
+            for (uint32_t j = 1; j < writes; j++) to[j + 1] = values[k + j];
+            if (writes % 2 == 0) to[writes + 1] = 0;
+        }
         k += writes;
+        at += words_of(writes);
     }
 }
 
@@ -57,11 +90,12 @@ uint64_t plain_pack(const uint32_t *ids, size_t ids_length, const uint32_t *mask
                     uint32_t *space, size_t space_length) {
     if (ids_length != masks_length || ids_length != values_length) return plain_refused(PICA_LENGTHS_DIFFER, 0);
     if (ids_length > PICA_MOST_WRITES) return plain_refused(PICA_TOO_MANY_WRITES, 0);
-    uint64_t answer = check(ids, masks, ids_length);
-    if (answer) return answer;
+    if (any_fails(ids, masks, ids_length)) return refused(ids, masks);
+    uint8_t links[PICA_MOST_WRITES];
     uint16_t take[PICA_MOST_WRITES];
-    uint32_t words = plan(ids, masks, (uint32_t)ids_length, take);
+    find_links(ids, masks, ids_length, links);
+    uint32_t words = plan(links, (uint32_t)ids_length, take);
     if (words > space_length) return plain_refused(PICA_NO_ROOM, words);
-    lay_out(ids, masks, values, (uint32_t)ids_length, take, space);
+    lay_out(ids, masks, values, (uint32_t)ids_length, links, take, space, words);
     return words;
 }

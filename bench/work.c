@@ -46,6 +46,13 @@ void long_unheld(struct list *list, size_t words) {
     pad(list, words);
 }
 
+/* Held registers, others and the fog's port, whose index stands two ids before its data. */
+void long_mixed(struct list *list, size_t words) {
+    list->length = 0;
+    while (left(list, words) >= 258) command(list, 0x40, 15, 256, 1);
+    pad(list, words);
+}
+
 /* One object of a captured frame: its shader's constants, its attributes, now and then a table, its stages, its tests, and the call that draws it. */
 static void object(struct list *list) {
     command(list, 0x2C0, 15, 1, 0);
@@ -87,6 +94,12 @@ static void write_of(struct run *run, size_t k, uint32_t id, uint32_t mask) {
     run->values[k] = any();
 }
 
+/* Half of them with mask F. */
+void held_writes(struct run *run, size_t writes) {
+    run->length = writes;
+    for (size_t k = 0; k < writes; k++) write_of(run, k, held_id(), below(2) ? 15 : below(16));
+}
+
 /* Few ids next to each other, so that runs of equal and of rising ids are common, short and compete. */
 void few_ids(struct run *run, size_t writes) {
     uint32_t id = 0x41;
@@ -106,4 +119,36 @@ void rising_ids(struct run *run, size_t writes) {
 void equal_ids(struct run *run, size_t writes) {
     run->length = writes;
     for (size_t k = 0; k < writes; k++) write_of(run, k, 0x41, 15);
+}
+
+/* No id is that of the write before it, nor the next one. */
+void apart_ids(struct run *run, size_t writes) {
+    uint32_t id = 0x40;
+    run->length = writes;
+    for (size_t k = 0; k < writes; k++) {
+        id = 0x40 + (id - 0x40 + 2 + below(0x7E)) % 0x80;
+        write_of(run, k, id, 15);
+    }
+}
+
+/* STATES */
+
+/* A texture times the primary colour, then halfway to the constant by the secondary colour's alpha; four stages hand that on. */
+void two_at_work(uint32_t *cells) {
+    static const uint32_t first[5] = {0x00300030, 0, 0x00010001, 0, 0}, second[5] = {0x02EF02EF, 0x00000200, 0x00040004, 0x80FF4020, 0};
+    valid_cells(cells);
+    mixed_tests(cells);
+    for (int k = 0; k < 5; k++) {
+        cells[0xC0 + k] = first[k];
+        cells[0xC8 + k] = second[k];
+    }
+    idle_stage(&cells[0xD0]);
+    idle_stage(&cells[0xD8]);
+    idle_stage(&cells[0xF0]);
+    idle_stage(&cells[0xF8]);
+}
+
+void six_at_work(uint32_t *cells) {
+    valid_cells(cells);
+    mixed_tests(cells);
 }

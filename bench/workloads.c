@@ -1,59 +1,106 @@
 /* The workloads: what each hands in, and a round of its calls. */
+#include <string.h>
+
 #include "bench.h"
 
 const struct library ours = {pica_read, pica_write, pica_pack, pica_decode, pica_fragment};
 const struct library plain = {plain_read, plain_write, plain_pack, plain_decode, plain_fragment};
 
-const struct workload workloads[WORKLOADS] = {
-    {"read, a word: short held commands", short_held, NULL, 8192, 0},
-    {"read, a word: light tables, 256 writes a command", light_uploads, NULL, 8192, 0},
-    {"read, a word: fog tables, 128 writes a command", fog_uploads, NULL, 8192, 0},
-    {"read, a word: long commands, rising, not held", long_unheld, NULL, 8192, 0},
-    {"read, a word: like a capture", capture, NULL, 8192, 0},
-    {"read, a word: like a capture, refused at the end", refused_at_last, NULL, 8192, PICA_JUMP_REGISTER},
-    {"read, a word: list of 64 words", short_held, NULL, 64, 0},
-    {"read, a word: list of 4 words", short_held, NULL, 4, 0},
-    {"pack, a write: 4,096 writes to few ids", NULL, few_ids, 4096, 0},
-    {"pack, a write: 4,096 writes, rising", NULL, rising_ids, 4096, 0},
-    {"pack, a write: 4,096 writes to one id", NULL, equal_ids, 4096, 0},
-    {"pack, a write: 64 writes to few ids", NULL, few_ids, 64, 0},
-    {"pack, a write: 4 writes to few ids", NULL, few_ids, 4, 0},
-    {"fragment: one state, many fragments", NULL, NULL, 1, 0},
-    {"fragment: many states", NULL, NULL, FRAGMENTS, 0},
+#define READING(what, make, words, lists, number) {"read, a word: " what, READ, words, lists, make, NULL, NULL, number}
+#define PACKING(what, make, writes, runs) {"pack, a write: " what, PACK, writes, runs, NULL, make, NULL, 0}
+#define DRAWING(what, make, each) {"fragment: " what, FRAGMENT, each, CALLS / each, NULL, NULL, make, 0}
+
+/* Where chance decides, a round is long: a short one is learned by heart by the processor. */
+const struct workload workloads[] = {
+    READING("short held commands", short_held, 32768, 2, 0),
+    READING("light tables, 256 writes a command", light_uploads, 8192, 1, 0),
+    READING("fog tables, 128 writes a command", fog_uploads, 8192, 1, 0),
+    READING("long commands, rising, not held", long_unheld, 8192, 1, 0),
+    READING("long commands, rising, 40 to 13F", long_mixed, 8192, 1, 0),
+    READING("like a capture", capture, 32768, 2, 0),
+    READING("like a capture, refused at the end", refused_at_last, 32768, 2, PICA_JUMP_REGISTER),
+    READING("list of 64 words", short_held, 64, 1024, 0),
+    READING("list of 4 words", short_held, 4, 4096, 0),
+    {"write: held registers", WRITE, 4096, 4, NULL, held_writes, NULL, 0},
+    PACKING("4,096 writes to few ids", few_ids, 4096, 4),
+    PACKING("4,096 writes, rising", rising_ids, 4096, 1),
+    PACKING("4,096 writes to one id", equal_ids, 4096, 1),
+    PACKING("4,096 writes, no two go together", apart_ids, 4096, 1),
+    PACKING("64 writes to few ids", few_ids, 64, 256),
+    PACKING("4 writes to few ids", few_ids, 4, 2048),
+    DRAWING("two stages at work, one state", two_at_work, CALLS),
+    DRAWING("six random stages, one state for 64", six_at_work, 64),
+    DRAWING("six random stages, many states", six_at_work, 1),
+    {"decode: valid states", DECODE, 1, CALLS, NULL, NULL, six_at_work, 0},
 };
+const size_t workload_count = sizeof workloads / sizeof workloads[0];
 
-/* What is handed in, the same to both. */
+/* What is handed in, the same to both: lists one after another, runs one after another, and few states, which stay near the processor. */
+enum { STATES = 256 };
 static struct list list;
-static struct run run;
-static struct state drawn[FRAGMENTS];
-static uint32_t given[FRAGMENTS][PICA_GIVEN];
+static struct { uint32_t ids[4 * PICA_MOST_WRITES], masks[4 * PICA_MOST_WRITES], values[4 * PICA_MOST_WRITES]; } writes;
+static uint32_t cells[STATES][PICA_CELLS], given[CALLS][PICA_GIVEN];
+static uint8_t state_of[CALLS];
+static uint32_t fog[PICA_FOG_ENTRIES], light[PICA_LIGHT_ENTRIES];
 
-static size_t fragments(size_t states) {
-    for (size_t k = 0; k < states; k++) valid_state(&drawn[k]);
-    if (states == 1) mixed_tests(&drawn[0]);
-    for (size_t k = 0; k < FRAGMENTS; k++) valid_given(given[k], &drawn[k % states]);
-    return FRAGMENTS;
+static void make_lists(const struct workload *w) {
+    static struct list part;
+    for (size_t k = 0; k < w->times; k++) {
+        w->list(&part, w->each);
+        memcpy(&list.words[k * w->each], part.words, w->each * sizeof part.words[0]);
+    }
+}
+
+static void make_runs(const struct workload *w) {
+    static struct run part;
+    for (size_t k = 0; k < w->times; k++) {
+        w->run(&part, w->each);
+        memcpy(&writes.ids[k * w->each], part.ids, w->each * sizeof part.ids[0]);
+        memcpy(&writes.masks[k * w->each], part.masks, w->each * sizeof part.masks[0]);
+        memcpy(&writes.values[k * w->each], part.values, w->each * sizeof part.values[0]);
+    }
+}
+
+static void make_states(const struct workload *w) {
+    for (size_t k = 0; k < STATES; k++) w->drawn(cells[k]);
+    for (size_t k = 0; k < CALLS; k++) {
+        state_of[k] = k % w->each ? state_of[k - 1] : (uint8_t)below(STATES);
+        valid_given(given[k], cells[state_of[k]]);
+    }
 }
 
 size_t prepared(const struct workload *w) {
-    if (w->list) {
-        w->list(&list, w->amount);
-        return list.length;
+    begin();
+    if (w->list) make_lists(w);
+    if (w->run) make_runs(w);
+    if (w->drawn) make_states(w);
+    return w->each * w->times;
+}
+
+static void one_round(const struct workload *w, const struct library *l, struct side *s) {
+    size_t n = w->each;
+    switch (w->call) {
+    case READ:
+        for (size_t k = 0; k < w->times; k++) s->answers[k % CALLS] = l->read(LENT(&s->state), &list.words[k * n], n);
+        break;
+    case WRITE:
+        for (size_t k = 0; k < n * w->times; k++) s->answers[k % CALLS] = l->write(LENT(&s->state), writes.ids[k], writes.masks[k], writes.values[k]);
+        break;
+    case PACK:
+        for (size_t k = 0; k < w->times; k++)
+            s->answers[k % CALLS] = l->pack(&writes.ids[k * n], n, &writes.masks[k * n], n, &writes.values[k * n], n, s->space, 2 * PICA_MOST_WRITES);
+        break;
+    case DECODE:
+        for (size_t k = 0; k < CALLS; k++)
+            s->answers[k] = l->decode(cells[state_of[k]], PICA_CELLS, fog, PICA_FOG_ENTRIES, light, PICA_LIGHT_ENTRIES, s->fields);
+        break;
+    case FRAGMENT:
+        for (size_t k = 0; k < CALLS; k++)
+            s->answers[k] = l->fragment(cells[state_of[k]], PICA_CELLS, fog, PICA_FOG_ENTRIES, light, PICA_LIGHT_ENTRIES, given[k], s->stored[k]);
+        break;
     }
-    if (w->run) {
-        w->run(&run, w->amount);
-        return run.length;
-    }
-    return fragments(w->amount);
 }
 
 void work(const struct workload *w, const struct library *l, struct side *s, unsigned times) {
-    for (; times > 0; times--) {
-        if (w->list)
-            s->answers[0] = l->read(LENT(&s->state), list.words, list.length);
-        else if (w->run)
-            s->answers[0] = l->pack(run.ids, run.length, run.masks, run.length, run.values, run.length, s->space, 2 * PICA_MOST_WRITES);
-        else
-            for (size_t k = 0; k < FRAGMENTS; k++) s->answers[k] = l->fragment(LENT(&drawn[k % w->amount]), given[k], s->stored[k]);
-    }
+    for (; times > 0; times--) one_round(w, l, s);
 }

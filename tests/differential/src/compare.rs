@@ -233,3 +233,39 @@ impl<'a> Pair<'a> {
         Ok(())
     }
 }
+
+#[cfg(test)]
+mod tests {
+    use super::*;
+
+    /// A store where none may be shows wherever it lands: each word of a
+    /// layout, changed alone, is told, and a guard as a guard.
+    #[test]
+    fn every_word_is_watched() {
+        let mut random = Random::new(1, 0);
+        let (mut left, mut right) = (Memory::new(), Memory::new());
+        fresh_state(&mut random, &mut left);
+        let mut met = [false; KINDS.len()];
+        while met.contains(&false) {
+            let case = next_case(&mut random, &mut left);
+            if std::mem::replace(&mut met[case.kind as usize], true) {
+                continue;
+            }
+            right.copy_from(&left);
+            assert_eq!(word_text(&case, &left, &right), None);
+            let mut guards = 0;
+            for position in 0..left.state.len() + left.lent.len() {
+                let stray = |memory: &mut Memory| match position.checked_sub(memory.state.len()) {
+                    None => memory.state[position] ^= 1,
+                    Some(position) => memory.lent[position] ^= 1,
+                };
+                stray(&mut left);
+                let told = word_text(&case, &left, &right).expect("the stray store is told");
+                guards += usize::from(told.starts_with("guard "));
+                stray(&mut left);
+            }
+            let buffers: usize = case.state.iter().chain(&case.lent).sum();
+            assert_eq!(guards, left.state.len() + left.lent.len() - buffers);
+        }
+    }
+}
