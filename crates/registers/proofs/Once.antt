@@ -10,6 +10,7 @@ use Rattle.numbers.specs.Answer.{Answer, answered, refused}
 use Rattle.numbers.specs.Settled.{Settles, settled}
 use Rattle.words.specs.Writes.{writing}
 use Rattle.words.proofs.Once.{refusal-one}
+use Rattle.registers.specs.Held.{bitsOf}
 use Rattle.registers.specs.State.{State, st, sized}
 use Rattle.registers.specs.Tables.{slotTable, heldTable}
 use Rattle.registers.specs.Applied.{put}
@@ -18,6 +19,8 @@ use Rattle.registers.specs.declared.Written.{Written}
 use Rattle.registers.specs.declared.Written.the-variants.{Done, Refused}
 use Rattle.registers.proofs.is_sized.Reads as is-sized
 use Rattle.registers.proofs.is_sized.Kinds as is-sized-kinds
+use Rattle.registers.proofs.bits_held.Reads as bits-held
+use Rattle.registers.proofs.bits_held.Kinds as bits-held-kinds
 use Rattle.registers.proofs.put_one.Reads as put-one
 use Rattle.registers.proofs.put_one.Kinds as put-one-kinds
 use Rattle.registers.proofs.held.slot_table.Reads as slot-table
@@ -58,3 +61,6 @@ put-one-settled κs a =
     settled _ _ (λ r. r) (λ r r′ e. e) tt
     (put (st (now (a .0)) (now (a .1 .0)) (now (a .1 .1 .0))) (a .1 .1 .1 .1 .1 .0) (a .1 .1 .1 .1 .1 .1 .0) (a .1 .1 .1 .1 .1 .1 .1 .0))
     (λ r e p. (refl, p))
+
+pub bits-held-settled : (κs : Lfts 2) (a : Dens κs bits-held-kinds.ps) → Settles (λ e. tt {0}) (bits-held.Post κs a)
+bits-held-settled κs a = settled _ _ (λ r. r) (λ r r′ e. e) (bitsOf (a .1 .1 .0)) tt (λ r e p. (p, refl))
