@@ -1,3 +1,4 @@
 pub mod Named
+pub mod Spread
 pub mod Uploads
 pub mod Once

@@ -6,11 +6,11 @@ ghost use Rattle.numbers.specs.Bits.{spread, merge};
 ghost use Rattle.ports.specs.Ports.{entry, named, rise, fogCells, fogEntries, lightCells, lightEntries};
 ghost use Rattle.ports.specs.Uploads.{filled, wrapped, uploaded, risen, fogCellsAfter, fogUploaded, lightCellsAfter, lightUploaded};
 
-// The bytes that a mask names, all ones.
+// The bytes that a mask names, all ones: the product brings each of its four bits to the foot of a byte.
 pub fn spread_mask(m: u32) -> u32
     ensures { λ r. ⌜ r ≡ spread m ⌝ }
 {
-    m % 2 * 0xFF + m / 2 % 2 * 0xFF00 + m / 4 % 2 * 0xFF0000 + m / 8 % 2 * 0xFF000000
+    (m % 16 * 0x204081 & 0x1010101) * 0xFF
 }
 
 // Of the bits e the new, of all others the old.

@@ -93,7 +93,7 @@ fn words_taken(h: u32) -> usize
     (2 + count + (2 + count) % 2) as usize
 }
 
-// The command at `at`, one write after another: the first value stands before the header, the others after it.
+// The command at `at` to rising ids, one write after another: the first value stands before the header, the others after it.
 fn apply_rising(
     cells: &mut [u32],
     fog: &mut [u32],
@@ -110,13 +110,14 @@ fn apply_rising(
     let h = list[at + 1];
     let bytes = ports::spread_mask(h / 0x10000 % 16);
     let mut id = h % 0x10000;
-    let mut left = h / 0x100000 % 256;
-    let mut j = at + 2;
-    registers::put_one(cells, fog, light, slots, held, id, bytes, list[at]);
+    let mut left = h / 0x100000 % 256 + 1;
+    let mut j = at;
+    let mut next: usize = 2;
     while 0 < left {
-        id += 1;
         registers::put_one(cells, fog, light, slots, held, id, bytes, list[j]);
-        j += 1;
+        j += next;
+        next = 1;
+        id += 1;
         left -= 1;
     }
 }

@@ -1,26 +1,28 @@
--- The invariant: what is left of the command leads from here to the state that all of it leads to. Assumes nothing.
+-- The invariant: what is left of the command leads from here to the state that all of it leads to, and its next value stands at j. Assumes nothing.
 use mathlib.Core.Path.{_≡_, refl, sym, _∙_}
 use Prim.Native.Nat.{_+_, _-_, _≤_, _<_}
 use native.Mathlib.Omega.{arith}
 use borrow.Author.Needs.{needs}
-use lib.ListN.{length}
+use lib.ListN.{length, getD}
 use Rattle.words.specs.Header.{idOf, countOf, stepOf}
-use Rattle.words.specs.Commands.{headerAt, run}
+use Rattle.words.specs.Commands.{headerAt, paramAt, run, expand}
 use Rattle.registers.specs.State.{st}
 use Rattle.registers.specs.Applied.{applyAll}
-use Rattle.reader.proofs.Applying.{run-applied, run-applies, param-later, expand-first}
+use Rattle.reader.proofs.Applying.{run-applied, run-applies, param-later}
 use Rattle.reader.proofs.apply_rising.Statement.{statement}
 use Rattle.reader.proofs.apply_rising.Tie as tie
 
 abbrev Inv-loop : tie.InvT-loop
-Inv-loop cells₀ fog₀ light₀ slots held list at h bytes id₀ left₀ j₀ cells fog light id left j =
+Inv-loop cells₀ fog₀ light₀ slots held list at h bytes id₀ left₀ j₀ next₀ cells fog light id left j next =
     (length cells ≡ 768) × (length fog ≡ 128) × (length light ≡ 6144)
-    × (j + left ≡ at + 2 + countOf (headerAt list at)) × (at + 2 ≤ j) × (id + left ≤ 65792)
-    × (applyAll (st cells fog light) (run list at left (j - (at + 1)) (id + stepOf (headerAt list at)))
-    ≡ applyAll (st cells₀ fog₀ light₀) (run list at (countOf (headerAt list at)) 1 (idOf (headerAt list at) + stepOf (headerAt list at))))
+    × (j + next + left ≡ at + 3 + countOf (headerAt list at)) × (1 ≤ next) × (next ≤ 2) × (left ≤ 256) × (id + left ≤ 65792)
+    × (left ≤ countOf (headerAt list at) + 1)
+    × (getD list j 0 ≡ paramAt list at (countOf (headerAt list at) + 1 - left))
+    × (applyAll (st cells fog light) (run list at left (countOf (headerAt list at) + 1 - left) id)
+    ≡ applyAll (st cells₀ fog₀ light₀) (expand list at))
 
 abbrev μ-loop : tie.MeasureT-loop
-μ-loop cells₀ fog₀ light₀ slots held list at h bytes id₀ left₀ j₀ cells fog light id left j =
+μ-loop cells₀ fog₀ light₀ slots held list at h bytes id₀ left₀ j₀ next₀ cells fog light id left j next =
     left
 
 add-h : tie.Need-add-h Inv-loop μ-loop
@@ -35,41 +37,34 @@ shared-slice-read-h c = search needs
 spread-mask-requires : tie.Need-spread-mask-requires Inv-loop μ-loop
 spread-mask-requires c κs = search needs
 
-add-j : tie.Need-add-j Inv-loop μ-loop
-add-j c = search needs
+add-left : tie.Need-add-left Inv-loop μ-loop
+add-left c = search needs
+
+loop-holds : tie.Need-loop-holds Inv-loop μ-loop
+loop-holds c =
+    let s = c .before .before .before .before .before .before in
+    let n = countOf (headerAt (s .args .list .now) (s .args .at)) in
+    let k : n + 1 - (n + 1) ≡ 0 = omega arith in
+    (s .pre .0 .0, s .pre .0 .1, s .pre .0 .2, omega arith, omega arith, omega arith, omega arith, omega arith, omega arith, rw k, rw k)
 
 mul-put-one : tie.Need-mul-put-one Inv-loop μ-loop
 mul-put-one c = search needs
 
 shared-slice-read-put-one : tie.Need-shared-slice-read-put-one Inv-loop μ-loop
-shared-slice-read-put-one c = search needs
+shared-slice-read-put-one c =
+    let o = c .before .before .before .before .before .loop in
+    omega (arith, c .before .before .before .before .before .before .before .before .before .before .before .before .pre .1 .0, o .inv .3, o .inv .4, c .before .before .before .before .loop-test .taken)
 
 put-one-requires : tie.Need-put-one-requires Inv-loop μ-loop
 put-one-requires c κs = search needs
 
-loop-holds : tie.Need-loop-holds Inv-loop μ-loop
-loop-holds c =
-    let s = c .before .before .before .before .before .before .before .before .before .before .before .before .before .before .before .before .before in
-    let at = s .args .at in
-    let p = c .before .before .before .before .before .before .put-one in
-    let k : at + 2 - (at + 1) ≡ 1 = omega arith in
-    (omega (arith, p .kept .0, s .pre .0 .0), omega (arith, p .kept .1 .0, s .pre .0 .1), omega (arith, p .kept .1 .1 .0, s .pre .0 .2), omega arith, omega arith, omega arith, rw k)
+add-j : tie.Need-add-j Inv-loop μ-loop
+add-j c =
+    let o = c .before .before .before .before .before .before .before .before .before .before .before .before .loop in
+    omega (arith, c .before .before .before .before .before .before .before .before .before .before .before .before .before .before .before .before .before .before .before .good, c .before .before .before .before .before .before .before .before .before .before .before .before .before .before .before .before .before .before .before .pre .1 .0, o .inv .3, o .inv .4, c .before .before .before .before .before .before .before .before .before .before .before .loop-test .taken)
 
 add-id : tie.Need-add-id Inv-loop μ-loop
 add-id c = search needs
-
-mul-put-one-2 : tie.Need-mul-put-one-2 Inv-loop μ-loop
-mul-put-one-2 c = search needs
-
-shared-slice-read-put-one-2 : tie.Need-shared-slice-read-put-one-2 Inv-loop μ-loop
-shared-slice-read-put-one-2 c = search needs
-
-put-one-requires-2 : tie.Need-put-one-requires-2 Inv-loop μ-loop
-put-one-requires-2 c κs = search needs
-
-add-j-2 : tie.Need-add-j-2 Inv-loop μ-loop
-add-j-2 c =
-    omega (arith, c .before .before .before .before .before .before .before .before .before .before .before .before .before .before .before .before .before .before .before .before .before .before .before .before .before .before .before .before .before .before .good, c .before .before .before .before .before .before .before .before .before .before .before .before .before .before .before .before .before .before .before .before .before .before .before .before .before .before .before .before .before .before .pre .1 .0, c .before .before .before .before .before .before .before .before .before .before .before .before .loop .inv .3)
 
 sub-left : tie.Need-sub-left Inv-loop μ-loop
 sub-left c = search needs
@@ -80,22 +75,26 @@ loop-less c = search needs
 loop-again : tie.Need-loop-again Inv-loop μ-loop
 loop-again c =
     let o = c .before .before .before .before .before .before .before .before .before .before .before .before .loop in
-    let s = c .before .before .before .before .before .before .before .before .before .before .before .before .before .before .before .before .before .before .before .before .before .before .before .before .before .before .before .before .before .before in
+    let s = c .before .before .before .before .before .before .before .before .before .before .before .before .before .before .before .before .before .before .before in
     let l = s .args .list .now in
     let at = s .args .at in
-    let p = c .before .before .before .before .before .before .put-one2 in
+    let n = countOf (headerAt l at) in
+    let p = c .before .before .before .before .before .before .put-one in
     let t : 0 < o .left = c .before .before .before .before .before .before .before .before .before .before .before .loop-test .taken in
-    let k : o .j + 1 - (at + 1) ≡ o .j - (at + 1) + 1 = omega (arith, o .inv .4) in
-    let e : o .id + 1 ≡ o .id + stepOf (headerAt l at) = omega (arith, s .pre .1 .1) in
-    let v = param-later l at (o .j - (at + 1)) (o .j) (omega (arith, o .inv .4)) (omega (arith, o .inv .4)) in (
+    let k : n + 1 - (o .left - 1) ≡ n + 1 - o .left + 1 = omega (arith, o .inv .8) in
+    let e : o .id + 1 ≡ o .id + stepOf (headerAt l at) = omega (arith, s .pre .1 .1) in (
       omega (arith, p .kept .0),
       omega (arith, p .kept .1 .0),
       omega (arith, p .kept .1 .1 .0),
       omega (arith, o .inv .3),
-      omega (arith, o .inv .4),
-      omega (arith, o .inv .5),
-      rw (p .ensures, c .before .before .before .before .before .before .before .before .before .before .before .before .before .before .before .before .before .before .before .before .before .before .before .before .spread-mask .ensures, v, k)
-          (sym (run-applies l at (st (o .cells) (o .fog) (o .light)) (o .left) (o .j - (at + 1)) (o .id + 1) t) ∙ rw e (o .inv .6)),
+      omega arith,
+      omega arith,
+      omega (arith, o .inv .6),
+      omega (arith, o .inv .7),
+      omega (arith, o .inv .8),
+      rw k (param-later l at (n + 1 - o .left + 1) (o .j + o .next) (omega arith) (omega (arith, o .inv .3, o .inv .8))),
+      rw (p .ensures, c .before .before .before .before .before .before .before .before .before .before .before .before .before .spread-mask .ensures, o .inv .9, k, e)
+          (sym (run-applies l at (st (o .cells) (o .fog) (o .light)) (o .left) (n + 1 - o .left) (o .id) t) ∙ o .inv .10),
     )
 
 same-length : tie.Need-same-length Inv-loop μ-loop
@@ -110,12 +109,10 @@ same-length-3 c = search needs
 returns : tie.Need-returns Inv-loop μ-loop
 returns c =
     let o = c .before .loop in
-    let s = c .before .before .before .before .before .before .before .before .before .before .before .before .before .before .before .before .before .before .before in
+    let s = c .before .before .before .before .before .before .before .before in
     let l = s .args .list .now in
     let at = s .args .at in
-    sym (run-applied l at (st (o .cells) (o .fog) (o .light)) (o .left) (o .j - (at + 1)) (o .id + stepOf (headerAt l at)) (c .loop-test .left))
-    ∙ o .inv .6
-    ∙ rw (c .before .before .before .before .before .before .before .before .put-one .ensures, c .before .before .before .before .before .before .before .before .before .before .before .before .before .spread-mask .ensures) (sym (expand-first l at (st (s .args .cells .now) (s .args .fog .now) (s .args .light .now))))
+    sym (run-applied l at (st (o .cells) (o .fog) (o .light)) (o .left) (countOf (headerAt l at) + 1 - o .left) (o .id) (c .loop-test .left)) ∙ o .inv .10
 
 pub apply-rising-spec : {M : Type 1} → statement M
 apply-rising-spec =
@@ -127,16 +124,13 @@ apply-rising-spec =
     mul-h
     shared-slice-read-h
     spread-mask-requires
-    add-j
+    add-left
+    loop-holds
     mul-put-one
     shared-slice-read-put-one
     put-one-requires
-    loop-holds
+    add-j
     add-id
-    mul-put-one-2
-    shared-slice-read-put-one-2
-    put-one-requires-2
-    add-j-2
     sub-left
     loop-less
     loop-again
