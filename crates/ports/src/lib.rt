@@ -50,7 +50,10 @@ fn is_named(t: u32) -> bool
 // A write to the fog port's data.
 pub fn put_fog(cells: &mut [u32], fog: &mut [u32], value: u32)
     requires { ⌜ (length (now cells) ≡ 768) × (length (now fog) ≡ 128) ⌝ }
-    ensures { λ _. ⌜ (now (cells .exit) ≡ fogCells (now (cells .entry))) × (now (fog .exit) ≡ fogEntries (now (cells .entry)) (now (fog .entry)) value) ⌝ }
+    ensures { λ _. ⌜
+        (now (cells .exit) ≡ fogCells (now (cells .entry)))
+        × (now (fog .exit) ≡ fogEntries (now (cells .entry)) (now (fog .entry)) value)
+        ⌝ }
 {
     let x = cells[0xE6];
     let i = (x % 128) as usize;
@@ -61,7 +64,10 @@ pub fn put_fog(cells: &mut [u32], fog: &mut [u32], value: u32)
 // A write to the light port's data: an unnamed table keeps its entries, and the index rises all the same.
 pub fn put_light(cells: &mut [u32], light: &mut [u32], value: u32)
     requires { ⌜ (length (now cells) ≡ 768) × (length (now light) ≡ 6144) ⌝ }
-    ensures { λ _. ⌜ (now (cells .exit) ≡ lightCells (now (cells .entry))) × (now (light .exit) ≡ lightEntries (now (cells .entry)) (now (light .entry)) value) ⌝ }
+    ensures { λ _. ⌜
+        (now (cells .exit) ≡ lightCells (now (cells .entry)))
+        × (now (light .exit) ≡ lightEntries (now (cells .entry)) (now (light .entry)) value)
+        ⌝ }
 {
     let x = cells[0x1C5];
     cells[0x1C5] = risen256(x);
@@ -138,7 +144,10 @@ fn risen256_by(x: u32, k: u32) -> u32
 // The words of `list` from `from` on, written to the fog port's data one after another.
 pub fn upload_fog(cells: &mut [u32], fog: &mut [u32], list: &[u32], from: usize, count: u32)
     requires { ⌜ (length (now cells) ≡ 768) × (length (now fog) ≡ 128) × (from + count ≤ length (now list)) × (count < 256) ⌝ }
-    ensures { λ _. ⌜ (now (cells .exit) ≡ fogCellsAfter (now (cells .entry)) count) × (now (fog .exit) ≡ fogUploaded (now (cells .entry)) (now (fog .entry)) (now (list .entry)) from count) ⌝ }
+    ensures { λ _. ⌜
+        (now (cells .exit) ≡ fogCellsAfter (now (cells .entry)) count)
+        × (now (fog .exit) ≡ fogUploaded (now (cells .entry)) (now (fog .entry)) (now (list .entry)) from count)
+        ⌝ }
 {
     let x = cells[0xE6];
     upload(fog, 0, 128, (x % 128) as usize, list, from, count as usize);
@@ -148,7 +157,10 @@ pub fn upload_fog(cells: &mut [u32], fog: &mut [u32], list: &[u32], from: usize,
 // The same for the light port's data: an unnamed table keeps its entries, and the index rises all the same.
 pub fn upload_light(cells: &mut [u32], light: &mut [u32], list: &[u32], from: usize, count: u32)
     requires { ⌜ (length (now cells) ≡ 768) × (length (now light) ≡ 6144) × (from + count ≤ length (now list)) × (count < 256) ⌝ }
-    ensures { λ _. ⌜ (now (cells .exit) ≡ lightCellsAfter (now (cells .entry)) count) × (now (light .exit) ≡ lightUploaded (now (cells .entry)) (now (light .entry)) (now (list .entry)) from count) ⌝ }
+    ensures { λ _. ⌜
+        (now (cells .exit) ≡ lightCellsAfter (now (cells .entry)) count)
+        × (now (light .exit) ≡ lightUploaded (now (cells .entry)) (now (light .entry)) (now (list .entry)) from count)
+        ⌝ }
 {
     let x = cells[0x1C5];
     let t = x / 256 % 32;

@@ -30,7 +30,8 @@ fn last_id(id: u32, count: u32, step: u32) -> u32
     if step == 0 { id } else { id + count }
 }
 
-// No write to an id of first..last under `mask` can be at fault: the range ends below 300h and meets neither a jump register nor, but for mask Fh, a port's data.
+// No write to an id of first..last under `mask` can be at fault: the range ends below 300h and meets neither a jump register nor, but for mask
+// Fh, a port's data.
 fn is_clear(first: u32, last: u32, mask: u32) -> bool
     ensures { λ r. ⌜ r ≡ clear first last mask ⌝ }
 {
@@ -103,9 +104,15 @@ fn apply_rising(
     list: &[u32],
     at: usize,
 )
-    requires { ⌜ (length (now cells) ≡ 768) × (length (now fog) ≡ 128) × (length (now light) ≡ 6144) × (now slots ≡ slotTable) × (now held ≡ heldTable) ⌝ }
+    requires { ⌜
+        (length (now cells) ≡ 768) × (length (now fog) ≡ 128) × (length (now light) ≡ 6144) × (now slots ≡ slotTable)
+        × (now held ≡ heldTable)
+        ⌝ }
     requires { ⌜ (at + wordsOf (headerAt (now list) at) ≤ length (now list)) × (stepOf (headerAt (now list) at) ≡ 1) ⌝ }
-    ensures { λ _. ⌜ st (now (cells .exit)) (now (fog .exit)) (now (light .exit)) ≡ applyAll (st (now (cells .entry)) (now (fog .entry)) (now (light .entry))) (expand (now (list .entry)) at) ⌝ }
+    ensures { λ _. ⌜
+        st (now (cells .exit)) (now (fog .exit)) (now (light .exit))
+        ≡ applyAll (st (now (cells .entry)) (now (fog .entry)) (now (light .entry))) (expand (now (list .entry)) at)
+        ⌝ }
 {
     let h = list[at + 1];
     let bytes = ports::spread_mask(h / 0x10000 % 16);
@@ -124,9 +131,15 @@ fn apply_rising(
 
 // The command at `at` to one id that is no port's data: its bits are looked up once, and its values go into the cell one after another.
 fn apply_same(cells: &mut [u32], slots: &[u8; 256], held: &[u32; 132], list: &[u32], at: usize)
-    requires { ⌜ (length (now cells) ≡ 768) × (now slots ≡ slotTable) × (now held ≡ heldTable) × (at + wordsOf (headerAt (now list) at) ≤ length (now list)) ⌝ }
+    requires { ⌜
+        (length (now cells) ≡ 768) × (now slots ≡ slotTable) × (now held ≡ heldTable)
+        × (at + wordsOf (headerAt (now list) at) ≤ length (now list))
+        ⌝ }
     requires { ⌜ ToOne (headerAt (now list) at) ⌝ }
-    ensures { λ _. ⌜ ((fog light : List ℕ) → st (now (cells .exit)) fog light ≡ applyAll (st (now (cells .entry)) fog light) (expand (now (list .entry)) at)) ⌝ }
+    ensures { λ _. ⌜
+        ((fog light : List ℕ) → st (now (cells .exit)) fog light
+        ≡ applyAll (st (now (cells .entry)) fog light) (expand (now (list .entry)) at))
+        ⌝ }
 {
     let h = list[at + 1];
     let id = h % 0x10000;
@@ -157,9 +170,15 @@ fn apply_at(
     list: &[u32],
     at: usize,
 )
-    requires { ⌜ (length (now cells) ≡ 768) × (length (now fog) ≡ 128) × (length (now light) ≡ 6144) × (now slots ≡ slotTable) × (now held ≡ heldTable) ⌝ }
+    requires { ⌜
+        (length (now cells) ≡ 768) × (length (now fog) ≡ 128) × (length (now light) ≡ 6144) × (now slots ≡ slotTable)
+        × (now held ≡ heldTable)
+        ⌝ }
     requires { ⌜ at + wordsOf (headerAt (now list) at) ≤ length (now list) ⌝ }
-    ensures { λ _. ⌜ st (now (cells .exit)) (now (fog .exit)) (now (light .exit)) ≡ applyAll (st (now (cells .entry)) (now (fog .entry)) (now (light .entry))) (expand (now (list .entry)) at) ⌝ }
+    ensures { λ _. ⌜
+        st (now (cells .exit)) (now (fog .exit)) (now (light .exit))
+        ≡ applyAll (st (now (cells .entry)) (now (fog .entry)) (now (light .entry))) (expand (now (list .entry)) at)
+        ⌝ }
 {
     let h = list[at + 1];
     let id = h % 0x10000;
@@ -183,7 +202,10 @@ fn apply_at(
 // A well-formed list's expansion, one masked write after another.
 fn apply_list(cells: &mut [u32], fog: &mut [u32], light: &mut [u32], list: &[u32])
     requires { ⌜ (length (now cells) ≡ 768) × (length (now fog) ≡ 128) × (length (now light) ≡ 6144) × (wellFormed (now list) ≡ true) ⌝ }
-    ensures { λ _. ⌜ st (now (cells .exit)) (now (fog .exit)) (now (light .exit)) ≡ applyAll (st (now (cells .entry)) (now (fog .entry)) (now (light .entry))) (expansion (now (list .entry))) ⌝ }
+    ensures { λ _. ⌜
+        st (now (cells .exit)) (now (fog .exit)) (now (light .exit))
+        ≡ applyAll (st (now (cells .entry)) (now (fog .entry)) (now (light .entry))) (expansion (now (list .entry)))
+        ⌝ }
 {
     let slots = registers::held::slot_table();
     let held = registers::held::held_table();
@@ -197,7 +219,10 @@ fn apply_list(cells: &mut [u32], fog: &mut [u32], light: &mut [u32], list: &[u32
 // A list read into a state: the number of its writes, or a refusal, 6 before 1 before the verdict's; a refused list changes nothing.
 pub fn read(cells: &mut [u32], fog: &mut [u32], light: &mut [u32], list: &[u32]) -> Verdict
     ensures answer { λ r. ⌜ told r ≡ readAnswer (st (now (cells .entry)) (now (fog .entry)) (now (light .entry))) (now (list .entry)) ⌝ }
-    ensures state { λ _. ⌜ st (now (cells .exit)) (now (fog .exit)) (now (light .exit)) ≡ readState (st (now (cells .entry)) (now (fog .entry)) (now (light .entry))) (now (list .entry)) ⌝ }
+    ensures state { λ _. ⌜
+        st (now (cells .exit)) (now (fog .exit)) (now (light .exit))
+        ≡ readState (st (now (cells .entry)) (now (fog .entry)) (now (light .entry))) (now (list .entry))
+        ⌝ }
 {
     if !registers::is_sized(cells, fog, light) {
         return Verdict::Refused(Refusal {

@@ -49,8 +49,14 @@ pub fn put_one(
     bytes: u32,
     value: u32,
 )
-    requires { ⌜ (length (now cells) ≡ 768) × (length (now fog) ≡ 128) × (length (now light) ≡ 6144) × (now slots ≡ slotTable) × (now held ≡ heldTable) ⌝ }
-    ensures { λ _. ⌜ st (now (cells .exit)) (now (fog .exit)) (now (light .exit)) ≡ put (st (now (cells .entry)) (now (fog .entry)) (now (light .entry))) id bytes value ⌝ }
+    requires { ⌜
+        (length (now cells) ≡ 768) × (length (now fog) ≡ 128) × (length (now light) ≡ 6144) × (now slots ≡ slotTable)
+        × (now held ≡ heldTable)
+        ⌝ }
+    ensures { λ _. ⌜
+        st (now (cells .exit)) (now (fog .exit)) (now (light .exit))
+        ≡ put (st (now (cells .entry)) (now (fog .entry)) (now (light .entry))) id bytes value
+        ⌝ }
 {
     let bits = bits_held(slots, held, id);
     if bits != 0 {
@@ -88,8 +94,13 @@ pub fn write(
     mask: u32,
     value: u32,
 ) -> Written
-    ensures answer { λ r. ⌜ told r ≡ writeAnswer (st (now (cells .entry)) (now (fog .entry)) (now (light .entry))) (writing id mask value) ⌝ }
-    ensures state { λ _. ⌜ st (now (cells .exit)) (now (fog .exit)) (now (light .exit)) ≡ writeState (st (now (cells .entry)) (now (fog .entry)) (now (light .entry))) (writing id mask value) ⌝ }
+    ensures answer { λ r. ⌜
+        told r ≡ writeAnswer (st (now (cells .entry)) (now (fog .entry)) (now (light .entry))) (writing id mask value)
+        ⌝ }
+    ensures state { λ _. ⌜
+        st (now (cells .exit)) (now (fog .exit)) (now (light .exit))
+        ≡ writeState (st (now (cells .entry)) (now (fog .entry)) (now (light .entry))) (writing id mask value)
+        ⌝ }
 {
     if !is_sized(cells, fog, light) {
         return Written::Refused(Refusal {
