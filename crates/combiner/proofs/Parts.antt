@@ -1,6 +1,6 @@
 -- Colours as words: what a word's parts are, and the table of words. Assumes nothing.
 use mathlib.Core.Path.{_≡_, refl}
-use mathlib.Core.List.{List, [], _∷_, map}
+use mathlib.Core.List.{List, [], _∷_}
 use Prim.Native.Nat.{ℕ, zero, suc, _+_, _-_, _*_, _/_, _%_, _^_, _<_, _≤_}
 use native.Mathlib.Omega.{arith}
 use lib.ListN.{getD, set, List·getD-map}
@@ -9,14 +9,14 @@ use Rattle.settings.proofs.Bytes.{Bytes}
 use Rattle.combiner.specs.Operands.{black, sourceOf, alphaPart}
 use Rattle.combiner.specs.Stage.{joined}
 use Rattle.combiner.specs.Words.{unpacked, rgb, rgbIn, colours}
-use Rattle.combiner.specs.declared.dot.Rgb.{Rgb}
 
 -- EQUAL CHANNELS
 
 abbrev pub colour : ℕ → ℕ → ℕ → ℕ → Colour
 colour r g b a = record { red = r; green = g; blue = b; alpha = a }
 
-pub same-colour : {r g b a r′ g′ b′ a′ : ℕ} → r ≡ r′ → g ≡ g′ → b ≡ b′ → a ≡ a′ → colour r g b a ≡ colour r′ g′ b′ a′
+pub same-colour : {r g b a r′ g′ b′ a′ : ℕ}
+    → r ≡ r′ → g ≡ g′ → b ≡ b′ → a ≡ a′ → colour r g b a ≡ colour r′ g′ b′ a′
 same-colour p q s t = cc
 
 pub same-rgb : {r g b r′ g′ b′ : ℕ} → r ≡ r′ → g ≡ g′ → b ≡ b′ → rgb r g b ≡ rgb r′ g′ b′
@@ -56,7 +56,8 @@ unpacked-bytes x = record { red = omega arith; green = omega arith; blue = omega
 
 -- a byte of a word by a shift
 by-shift : (half x : ℕ) → half < 4
-    → x / 2 ^ ((half * 8 + 24) % 32) % 256 ≡ getD (unpacked x .alpha ∷ unpacked x .red ∷ unpacked x .green ∷ unpacked x .blue ∷ []) half 0
+    → x / 2 ^ ((half * 8 + 24) % 32) % 256
+    ≡ getD (unpacked x .alpha ∷ unpacked x .red ∷ unpacked x .green ∷ unpacked x .blue ∷ []) half 0
 unfolding unpacked
 by-shift zero x h = refl
 by-shift (suc zero) x h = omega arith

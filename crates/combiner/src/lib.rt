@@ -1,12 +1,14 @@
-// The combiner: six stages, each of which may read what the stages before it gave. The contract of `combine` cites specs/Chain.antt.
+// The combiner: six stages, each of which may read what the stages before it gave. The contract of `combine` cites specs/Chain.antt, by the
+// registers of the cells. A fragment reads each register once, where it is used: nothing is decoded first. The sixteen colours that a source code can
+// name are kept as words in one array, in which a stage changes three; specs/Words.antt says how words and array stand for the document's colours.
 ghost use mathlib.Core.Path.{_≡_};
 ghost use Prim.Native.Nat.{_<_};
 ghost use lib.ListN.{length, getD};
 ghost use Rattle.settings.specs.Ranges.{inCells};
-ghost use Rattle.settings.specs.Stages.{stageIn, stagesIn, bufferFogIn};
+ghost use Rattle.settings.specs.Stages.{stageIn};
 ghost use Rattle.combiner.specs.Operands.{black, byCode};
-ghost use Rattle.combiner.specs.Chain.{atFirst, bufferAfter, combinerOf};
-ghost use Rattle.combiner.specs.Words.{unpacked, colours, tableAfter, tableAtLast};
+ghost use Rattle.combiner.specs.Chain.{atFirst, bufferAfter};
+ghost use Rattle.combiner.specs.Words.{unpacked, colours, tableAfter, tableBy, combinerBy};
 use settings::records::Colour;
 
 mod dot;
@@ -27,13 +29,7 @@ pub struct Given {
     pub texture3: Colour,
 }
 
-// What a stage sees as Previous and as Previous buffer.
-pub struct Seen {
-    pub previous: Colour,
-    pub buffer: Colour,
-}
-
-// rgb and alpha are the stage's bits of E0.
+// The buffer that the next stage sees; rgb and alpha are this stage's bits of E0.
 fn buffer_after(rgb: u32, alpha: u32, previous: u32, buffer: u32) -> u32
     ensures { λ r. ⌜ unpacked r ≡ bufferAfter rgb alpha (record { previous = unpacked previous; buffer = unpacked buffer }) ⌝ }
 {
@@ -43,10 +39,12 @@ fn buffer_after(rgb: u32, alpha: u32, previous: u32, buffer: u32) -> u32
     )
 }
 
-// The stage whose source register is b: its constant, its result and the next stage's buffer go into the table.
+// The stage whose source register is b, by its bits of E0: its constant, its result and the next stage's buffer go into the table.
 fn step(cells: &[u32], b: usize, rgb: u32, alpha: u32, table: &mut [u32; 16])
     requires { ⌜ (length (now cells) ≡ 768) × (b < 760) ⌝ }
-    ensures { λ _. ⌜ colours (now (table .exit)) ≡ tableAfter (stageIn (inCells (now (cells .entry))) b) rgb alpha (colours (now (table .entry))) ⌝ }
+    ensures { λ _. ⌜
+        colours (now (table .exit)) ≡ tableAfter (stageIn (inCells (now (cells .entry))) b) rgb alpha (colours (now (table .entry)))
+        ⌝ }
 {
     let source = cells[b];
     let operand = cells[b + 1];
@@ -60,9 +58,10 @@ fn step(cells: &[u32], b: usize, rgb: u32, alpha: u32, table: &mut [u32; 16])
     table[15] = result;
 }
 
+// All six, in order; E0 has no bit for stages 0 and 5.
 fn run_stages(cells: &[u32], table: &mut [u32; 16])
     requires { ⌜ length (now cells) ≡ 768 ⌝ }
-    ensures { λ _. ⌜ colours (now (table .exit)) ≡ tableAtLast (stagesIn (inCells (now (cells .entry)))) (bufferFogIn (inCells (now (cells .entry)))) (colours (now (table .entry))) ⌝ }
+    ensures { λ _. ⌜ colours (now (table .exit)) ≡ tableBy (now (cells .entry)) (colours (now (table .entry))) ⌝ }
 {
     let update = cells[0xE0];
     step(cells, 0xC0, 0, 0, table);
@@ -73,7 +72,7 @@ fn run_stages(cells: &[u32], table: &mut [u32; 16])
     step(cells, 0xF8, 0, 0, table);
 }
 
-// The table before stage 0.
+// The table before stage 0, which sees zero as Previous and the buffer, FD, as Previous buffer.
 fn first_table(g: Given, buffer: u32) -> [u32; 16]
     ensures { λ r. ⌜ colours r ≡ byCode g black (atFirst (unpacked buffer)) ⌝ }
 {
@@ -111,10 +110,10 @@ fn previous_in(table: &[u32; 16]) -> Colour
     words::colour_of(table[15])
 }
 
-// The combiner's result for the colours given with a fragment, by the registers of the cells.
+// The combiner's result for the colours given with a fragment, by the registers of the cells. For `fragment`, which has tested their length.
 pub fn combine(cells: &[u32], g: Given) -> Colour
     requires { ⌜ length (now cells) ≡ 768 ⌝ }
-    ensures { λ r. ⌜ r ≡ combinerOf (stagesIn (inCells (now (cells .entry)))) (bufferFogIn (inCells (now (cells .entry)))) g ⌝ }
+    ensures { λ r. ⌜ r ≡ combinerBy (now (cells .entry)) g ⌝ }
 {
     let mut table = first_table(g, cells[0xFD]);
     run_stages(cells, &mut table);

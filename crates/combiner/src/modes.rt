@@ -2,8 +2,7 @@
 ghost use mathlib.Core.Path.{_≡_};
 ghost use Prim.Native.Nat.{_≤_, _*_, _/_};
 ghost use Rattle.combiner.specs.Modes.{toByte, modulated, added, addedSigned, interpolated, subtracted, multipliedAdded, addedMultiplied, combined, factorOf};
-ghost use Rattle.combiner.specs.Dot.{dot3Of};
-ghost use Rattle.combiner.specs.Words.{rgbIn};
+ghost use Rattle.combiner.specs.Words.{dotIn};
 use crate::dot;
 
 // The one division by 255. The largest number divided is a dot3 of equal corners, 3 times 255 times 255.
@@ -69,9 +68,10 @@ pub fn add_multiply(a: u8, b: u8, c: u8) -> u8
     modulate(add(a, b), c)
 }
 
-// One channel of a stage's result, before its scale; x and y are the stage's first two RGB operands, whose dot3 is worked out where the mode asks for it.
+// One channel of a stage's result, before its scale; x and y are the stage's first two RGB operands, whose dot3 is worked out only where the mode
+// asks for it.
 pub fn combine(mode: u32, a: u8, b: u8, c: u8, x: u32, y: u32) -> u8
-    ensures { λ r. ⌜ r ≡ combined mode a b c (dot3Of (rgbIn x) (rgbIn y)) ⌝ }
+    ensures { λ r. ⌜ r ≡ combined mode a b c (dotIn x y) ⌝ }
 {
     match mode {
         0 => a,

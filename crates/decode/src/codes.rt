@@ -1,5 +1,5 @@
-// Codes without a name: a test for each kind of register, ids ascending, and then the lowest id that holds one. The contracts cite specs/Codes.antt.
-// All tests are joined in one word without a branch, and the lowest id is looked for only where that word isn't 0: nearly every state passes them all.
+// Codes without a name: a test for each kind of register, and the lowest id that holds one. The contracts cite specs/Codes.antt.
+// Nearly every state passes all tests, so they are first joined in one word without a branch; the lowest id is looked for only where that word isn't 0.
 ghost use mathlib.Core.Path.{_≡_};
 ghost use mathlib.Core.Bool.{not};
 ghost use lib.Dec.{eqb};
@@ -10,9 +10,14 @@ ghost use Rattle.settings.specs.Ranges.{bits, inCells};
 ghost use Rattle.settings.specs.Stages.{sourceIn, operandIn, combinerIn, scaleIn, stageIn, updateIn};
 ghost use Rattle.settings.specs.Framebuffer.{operationIn, functionIn, formatIn, framebufferIn};
 ghost use Rattle.settings.specs.Settings.{settingsIn};
-ghost use Rattle.decode.specs.Codes.{sourceLacks, operandLacks, combinerLacks, scaleLacks, updateLacks, operationLacks, functionLacks, formatLacks, noDepthFormat, stageChecks, frameChecks, checks, firstOf, lowest, anyOf, anyLacks};
+ghost use Rattle.decode.specs.Codes.{sourceLacks, operandLacks, combinerLacks, scaleLacks, updateLacks};
+ghost use Rattle.decode.specs.Codes.{operationLacks, functionLacks, noDepthFormat, formatLacks};
+ghost use Rattle.decode.specs.Codes.{stageChecks, frameChecks, checks, firstOf, lowest, anyOf, anyLacks};
 
-// All six codes at once: bit 0 of a code's four bits is left where the code is 7..Ch, so that the word is 0 where all have a name. With a, b, c, d a code's bits from bit 0 up, that is where d differs from c AND (a OR b), and d OR (a AND b).
+// A REGISTER'S CODES. Those of four bits are tested all at once: of each code's bits a, b, c, d, from bit 0 up, bit 0 is left in the word where the code
+// lacks a name, so that the word is 0 where all have one.
+
+// Left for 7..Ch: where d differs from c AND (a OR b), and d OR (a AND b).
 fn source_bits(x: u32) -> u32
     ensures { λ r. ⌜ not (eqb r 0) ≡ sourceLacks (sourceIn (bits x)) ⌝ }
 {
@@ -25,7 +30,7 @@ fn source_lacks(x: u32) -> bool
     source_bits(x) != 0
 }
 
-// All three codes at once: b AND (c OR d) is left for 6, 7, Ah, Bh, Eh, Fh.
+// Left for 6, 7, Ah, Bh, Eh, Fh: b AND (c OR d). Every alpha operand has a name.
 fn operand_bits(x: u32) -> u32
     ensures { λ r. ⌜ not (eqb r 0) ≡ operandLacks (operandIn (bits x)) ⌝ }
 {
@@ -47,7 +52,7 @@ fn combiner_lacks(x: u32) -> bool
     (9 < rgb) | ((9 < alpha) | (6 <= alpha) & (alpha <= 7) & (rgb != 7))
 }
 
-// Both codes at once: a AND b is left for 3.
+// Left for 3: a AND b.
 fn scale_bits(x: u32) -> u32
     ensures { λ r. ⌜ not (eqb r 0) ≡ scaleLacks (scaleIn (bits x)) ⌝ }
 {
@@ -96,6 +101,8 @@ fn format_lacks(x: u32) -> bool
     (size == 1) | (size == 3) | ((format == 1) | (5 <= format) & (format <= 7))
 }
 
+// THE LOWEST ID, from the highest register down.
+
 // The id where its register lacks a name, else the rest.
 fn first_of(lacks: bool, id: usize, rest: usize) -> usize
     ensures { λ r. ⌜ r ≡ pick lacks id rest ⌝ }
@@ -133,7 +140,7 @@ fn frame_first(cells: &[u32]) -> usize
     first_of(operation_lacks(operation), 0x100, second)
 }
 
-// The lowest id of all, from the highest register down; 0 for none.
+// The lowest id of all; 0 for none.
 fn lowest_id(cells: &[u32]) -> usize
     requires { ⌜ length (now cells) ≡ 768 ⌝ }
     ensures { λ r. ⌜ r ≡ lowest (checks (settingsIn (inCells (now (cells .entry))))) ⌝ }
@@ -149,7 +156,9 @@ fn lowest_id(cells: &[u32]) -> usize
     stage_first(cells, 0xC0, stage1)
 }
 
-// 0 where the test fails.
+// THE QUICK TEST
+
+// Not 0 where a name is lacking.
 fn bits_of(lacks: bool) -> u32
     ensures { λ r. ⌜ not (eqb r 0) ≡ lacks ⌝ }
 {
@@ -169,7 +178,7 @@ fn stage_bits(cells: &[u32], b: usize, rest: u32) -> u32
         | (operand_bits(operand) | (bits_of(combiner_lacks(combiner)) | (scale_bits(scale) | rest)))
 }
 
-// 100, 101, 116 or 117 does, or the rest.
+// 100, 101, 116 or 117 holds one, or the rest does.
 fn frame_lacks(cells: &[u32], rest: bool) -> bool
     requires { ⌜ length (now cells) ≡ 768 ⌝ }
     ensures { λ r. ⌜ r ≡ anyOf (frameChecks (framebufferIn (inCells (now (cells .entry))))) rest ⌝ }
@@ -183,6 +192,7 @@ fn frame_lacks(cells: &[u32], rest: bool) -> bool
             | (depth_format_lacks(depth_format) | (format_lacks(format) | rest)))
 }
 
+// Some register holds one.
 fn any_lacks(cells: &[u32]) -> bool
     requires { ⌜ length (now cells) ≡ 768 ⌝ }
     ensures { λ r. ⌜ r ≡ anyLacks (checks (settingsIn (inCells (now (cells .entry))))) ⌝ }

@@ -1,4 +1,4 @@
-// The decoded state of the 66 held registers: their settings, or a refusal. The contract of `decode` cites specs/Decoded.antt.
+// The decoded state of the 66 held registers: their settings, or a refusal. The contracts cite specs/Decoded.antt.
 ghost use mathlib.Core.Path.{_≡_};
 ghost use Rattle.registers.specs.State.{st};
 ghost use Rattle.decode.specs.Decoded.{decodedOf, checkedOf};
@@ -19,7 +19,8 @@ pub enum Checked {
     Refused(Refusal),
 }
 
-// The refusals of `decode` alone, for a caller that reads the registers it uses: 6 at place 0, then 13 at the lowest id that holds a code without a name.
+// The refusals of `decode` alone, for a caller that reads from the cells the registers that it uses: 6 at place 0, then 13 at the lowest id that holds
+// a code without a name.
 pub fn check(cells: &[u32], fog: &[u32], light: &[u32]) -> Checked
     ensures { λ r. ⌜ r ≡ checkedOf (st (now (cells .entry)) (now (fog .entry)) (now (light .entry))) ⌝ }
 {

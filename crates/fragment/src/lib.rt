@@ -1,4 +1,5 @@
-// One fragment: the combiner's result, the tests, and what is stored. The contracts cite specs/Drawn.antt.
+// One fragment: the combiner's result, the tests, and what is stored. The contracts cite specs/Drawn.antt. No settings are read for it:
+// once every code has a name, each function below takes from the cells the registers that it uses.
 ghost use mathlib.Core.Path.{_≡_};
 ghost use lib.ListN.{length};
 ghost use Rattle.registers.specs.State.{st};
@@ -22,6 +23,7 @@ pub enum Drawn {
     Refused(Refusal),
 }
 
+// The combiner's result, judged and stored.
 fn find_outcome(cells: &[u32], g: Given, incoming: u32, stored: Stored) -> Outcome
     requires { ⌜ length (now cells) ≡ 768 ⌝ }
     ensures { λ r. ⌜ r ≡ outcomeOf (settingsIn (inCells (now (cells .entry)))) g incoming stored ⌝ }
@@ -78,6 +80,7 @@ fn largest_depth(format: u32) -> u32
     if format % 4 == 0 { 65535 } else { 16777215 }
 }
 
+// Of cells whose length is a state's and whose codes all have a name.
 fn draw_with(cells: &[u32], g: Given, incoming: u32, stored: Stored) -> Drawn
     requires { ⌜ length (now cells) ≡ 768 ⌝ }
     ensures { λ r. ⌜ r ≡ drawnWith (settingsIn (inCells (now (cells .entry)))) g incoming stored ⌝ }
@@ -105,7 +108,8 @@ fn draw_with(cells: &[u32], g: Given, incoming: u32, stored: Stored) -> Drawn
     Drawn::Done(find_outcome(cells, g, incoming, stored))
 }
 
-// What becomes of a fragment: the verdict, and the colour, stencil and depth that are then stored; or refused with 6 at 0, 13 or 14 at the lowest id, or 12 at 0 for the incoming depth, 1 for the stored.
+// What becomes of a fragment: the verdict, and the colour, stencil and depth that are then stored; or refused with 6 at 0, 13 or 14 at the lowest id,
+// or 12 at 0 for the incoming depth, 1 for the stored.
 pub fn draw(
     cells: &[u32],
     fog: &[u32],

@@ -20,10 +20,14 @@ nameless-id-requires c κs =
     lengths (st (a .cells .now) (a .fog .now) (a .light .now)) (sym (c .before .is-sized .ensures) ∙ not-false _ (c .if1 .left)) .0
 
 returns-2 : tie.Need-returns-2
-returns-2 c = sym (code-refused _ _ (sym (c .before .before .before .is-sized .ensures) ∙ not-false _ (c .before .before .if1 .left)) (c .before .nameless-id .ensures) (c .if2 .taken))
+returns-2 c =
+    let e = sym (c .before .before .before .is-sized .ensures) ∙ not-false _ (c .before .before .if1 .left) in
+    sym (code-refused _ _ e (c .before .nameless-id .ensures) (c .if2 .taken))
 
 returns-3 : tie.Need-returns-3
-returns-3 c = sym (all-named _ (sym (c .before .before .before .is-sized .ensures) ∙ not-false _ (c .before .before .if1 .left)) (sym (c .before .nameless-id .ensures) ∙ c .if2 .left))
+returns-3 c =
+    let e = sym (c .before .before .before .is-sized .ensures) ∙ not-false _ (c .before .before .if1 .left) in
+    sym (all-named _ e (sym (c .before .nameless-id .ensures) ∙ c .if2 .left))
 
 pub check-spec : {M : Type 1} → statement M
 check-spec =

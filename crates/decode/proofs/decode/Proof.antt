@@ -27,7 +27,9 @@ returns : tie.Need-returns
 returns c = sym (refused-alike _ _ (sym (c .before .before .before .check .ensures) ∙ c .before .refusal .given .1))
 
 returns-2 : tie.Need-returns-2
-returns-2 c = sym (named-held _ (sym (c .before .before .before .check .ensures) ∙ c .before .enum-told .given .1) ∙ ap Held (sym (c .read-settings .ensures)))
+returns-2 c =
+    let e = sym (c .before .before .before .check .ensures) ∙ c .before .enum-told .given .1 in
+    sym (named-held _ e ∙ ap Held (sym (c .read-settings .ensures)))
 
 pub decode-spec : {M : Type 1} → statement M
 decode-spec =

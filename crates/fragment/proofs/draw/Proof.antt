@@ -29,7 +29,9 @@ returns c = rw (refused-alike _ _ (sym (c .before .before .before .check .ensure
 
 returns-2 : tie.Need-returns-2
 unfolding drawnFrom
-returns-2 c = rw (named-held _ (sym (c .before .before .before .check .ensures) ∙ c .before .enum-told .given .1), c .draw-with .ensures)
+returns-2 c =
+    let e = sym (c .before .before .before .check .ensures) ∙ c .before .enum-told .given .1 in
+    rw (named-held _ e, c .draw-with .ensures)
 
 pub draw-spec : {M : Type 1} → statement M
 draw-spec =

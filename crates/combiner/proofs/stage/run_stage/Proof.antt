@@ -1,9 +1,7 @@
 -- As the calls ensure. Assumes nothing.
-use Rattle.combiner.proofs.Parts.{source-at}
-use Rattle.combiner.proofs.Mixed.{stage-parts}
-use Rattle.combiner.specs.Operands.{rgbOperand}
-use mathlib.Core.Path.{ap, sym, _∙_}
+use mathlib.Core.Path.{_∙_}
 use Prim.Native.Nat.{_/_, _%_, _^_}
+use Rattle.combiner.proofs.Mixed.{operand-at, stage-parts}
 use borrow.Author.Needs.{needs}
 use Rattle.combiner.proofs.stage.run_stage.Statement.{statement}
 use Rattle.combiner.proofs.stage.run_stage.Tie as tie
@@ -56,11 +54,12 @@ finish-requires c κs = search needs
 returns : tie.Need-returns
 returns c =
     let a = c .before .before .before .before .before .before .before .before .before .args in
+    let ws = a .table .now in
     c .finish .ensures ∙
     stage-parts _ _ _ _ _ _ _
-    (c .before .before .before .before .before .rgb-operand .ensures ∙ ap (rgbOperand (a .operand % 16)) (sym (source-at (a .table .now) (a .source))))
-    (c .before .before .before .before .rgb-operand2 .ensures ∙ ap (rgbOperand (a .operand / 2 ^ 4 % 16)) (sym (source-at (a .table .now) (a .source / 2 ^ 4))))
-    (c .before .before .before .rgb-operand3 .ensures ∙ ap (rgbOperand (a .operand / 2 ^ 8 % 16)) (sym (source-at (a .table .now) (a .source / 2 ^ 8))))
+    (operand-at ws (a .source) (a .operand % 16) _ (c .before .before .before .before .before .rgb-operand .ensures))
+    (operand-at ws (a .source / 2 ^ 4) (a .operand / 2 ^ 4 % 16) _ (c .before .before .before .before .rgb-operand2 .ensures))
+    (operand-at ws (a .source / 2 ^ 8) (a .operand / 2 ^ 8 % 16) _ (c .before .before .before .rgb-operand3 .ensures))
     (c .before .before .mix-rgb .ensures)
     (c .before .mix-alpha .ensures)
 

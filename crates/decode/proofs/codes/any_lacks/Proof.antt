@@ -1,5 +1,5 @@
 -- Group by group, as the calls ensure. Assumes nothing.
-use Rattle.decode.proofs.Nibbles.{or-any}
+use Rattle.decode.proofs.Bitwise.{or-any}
 use Rattle.decode.proofs.First.{any-checks}
 use Rattle.settings.specs.Settings.{settingsIn}
 use borrow.Author.Needs.{needs}

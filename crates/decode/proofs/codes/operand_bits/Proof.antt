@@ -1,5 +1,5 @@
 -- All codes at once. Assumes nothing.
-use Rattle.decode.proofs.Nibbles.{operand-codes}
+use Rattle.decode.proofs.Bitwise.{operand-codes}
 use Rattle.decode.proofs.codes.operand_bits.Statement.{statement}
 use Rattle.decode.proofs.codes.operand_bits.Tie as tie
 

@@ -1,5 +1,5 @@
 -- All codes at once. Assumes nothing.
-use Rattle.decode.proofs.Nibbles.{scale-codes}
+use Rattle.decode.proofs.Bitwise.{scale-codes}
 use Rattle.decode.proofs.codes.scale_bits.Statement.{statement}
 use Rattle.decode.proofs.codes.scale_bits.Tie as tie
 

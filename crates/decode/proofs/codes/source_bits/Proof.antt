@@ -1,5 +1,5 @@
 -- All codes at once. Assumes nothing.
-use Rattle.decode.proofs.Nibbles.{source-codes}
+use Rattle.decode.proofs.Bitwise.{source-codes}
 use Rattle.decode.proofs.codes.source_bits.Statement.{statement}
 use Rattle.decode.proofs.codes.source_bits.Tie as tie
 

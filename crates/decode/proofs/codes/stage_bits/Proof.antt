@@ -1,5 +1,5 @@
 -- Check by check, as the calls ensure. Assumes nothing.
-use Rattle.decode.proofs.Nibbles.{or-any}
+use Rattle.decode.proofs.Bitwise.{or-any}
 use Rattle.decode.specs.Codes.{stageChecks, anyOf}
 use borrow.Author.Needs.{needs}
 use Rattle.decode.proofs.codes.stage_bits.Statement.{statement}
