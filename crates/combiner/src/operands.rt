@@ -1,23 +1,26 @@
 // The operands taken from a stage's sources, which are words. The contracts cite specs/Operands.antt and specs/Words.antt.
 ghost use mathlib.Core.Path.{_≡_};
-ghost use Rattle.combiner.specs.Operands.{oneMinus, rgbOperand, alphaPart, alphaOperand};
+ghost use Rattle.combiner.specs.Operands.{oneMinus, rgbPart, rgbOperand, alphaPart, alphaOperand};
 ghost use Rattle.combiner.specs.Words.{unpacked, rgbIn, rgbParts, rgbOneMinus};
 use crate::words;
 
-// An even code and the odd one after it name the same part: the channels' own, or the source's alpha, red, green or blue for all three.
+// The byte of a source that an RGB operand's code names, by a shift: the number has for each half code from 0 up the bit at which the byte begins, 24
+// for alpha, 0, 8, 16 for red, green, blue, and 32, past the word, where the code names none.
+fn byte_part(code: u32, x: u32) -> u8
+    ensures { λ r. ⌜ r ≡ rgbPart code (unpacked x) 0 ⌝ }
+{
+    let first = (0x2010200820001820u64 >> (code / 2 % 8 * 8)) % 64;
+    ((x as u64 >> first) % 256) as u8
+}
+
+// An even code and the odd one after it name the same part: the channels' own, or one byte of the source for all three.
 fn rgb_part(code: u32, x: u32) -> u32
     ensures { λ r. ⌜ rgbIn r ≡ rgbParts code (unpacked x) ⌝ }
 {
-    let half = code / 2 % 8;
-    match half {
-        0 => x,
-        1 => words::grey(((x >> 24) % 256) as u8),
-        2 => words::grey((x % 256) as u8),
-        3 => 0,
-        4 => words::grey(((x >> 8) % 256) as u8),
-        5 => 0,
-        6 => words::grey(((x >> 16) % 256) as u8),
-        _ => 0,
+    if code / 2 % 8 == 0 {
+        x
+    } else {
+        words::grey(byte_part(code, x))
     }
 }
 

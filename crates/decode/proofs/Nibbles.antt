@@ -30,6 +30,10 @@ split a (suc (suc b)) h = absurd (omega arith)
 shift : (a : ℕ) → not (eqb (a * 16) 0) ≡ not (eqb a 0)
 shift a = ap not (eqb-same (a * 16) 0 a 0 (λ e. omega arith) (λ e. omega arith))
 
+split-32 : (a b : ℕ) → not (eqb (a * 0x100000000 + b) 0) ≡ (not (eqb b 0) || not (eqb a 0))
+split-32 a zero = ap not (eqb-same (a * 0x100000000 + 0) 0 a 0 (λ e. omega arith) (λ e. omega arith))
+split-32 a (suc b) = rw (ne-eqb (a * 0x100000000 + suc b) 0 (λ e. omega arith), ne-eqb (suc b) 0 (λ e. omega arith))
+
 -- a test over the sixteen codes
 unfoldable pub same : Bool → Bool → Bool
 same true b = b
@@ -74,6 +78,18 @@ mask-none y m =
     (ap (λ (z : ℕ). bitAnd z (m * 16 + 0)) e ∙ and-block 4 (y / 16) m (y % 16) 0 (omega arith) (omega arith) ∙
     rw (and-zero-r (y % 16)) (omega arith))
 
+mask-halves : (y m k : ℕ) → k < 0x100000000
+    → bitAnd y (m * 0x100000000 + k) ≡ bitAnd (y / 0x100000000) m * 0x100000000 + bitAnd (y % 0x100000000) k
+mask-halves y m k h =
+    let e : y ≡ y / 0x100000000 * 0x100000000 + y % 0x100000000 = omega arith in
+    ap (λ (z : ℕ). bitAnd z (m * 0x100000000 + k)) e ∙
+    and-block 32 (y / 0x100000000) m (y % 0x100000000) k (omega arith) h
+
+mask-low : (y k : ℕ) → k < 0x100000000 → bitAnd y k ≡ bitAnd (y % 0x100000000) k
+mask-low y k h =
+    let d : k ≡ 0 * 0x100000000 + k = omega arith in
+    ap (bitAnd y) d ∙ mask-halves y 0 k h ∙ rw (and-zero-r (y / 0x100000000)) (omega arith)
+
 -- NIBBLE BY NIBBLE
 
 -- bit 0 of each four bits of f x goes by those four bits of x
@@ -114,6 +130,26 @@ xor-wise {f} {g} p q =
       up = λ x. rw (xor-shr (f x) (g x) 4, p .up x, q .up x);
       low = λ x. rw (xor-mod (f x) (g x) 1, xor-mod (f (x % 16)) (g (x % 16)) 1, p .low x, q .low x);
     }
+
+-- so a word of 64 bits goes by its two halves
+module _ (f : ℕ → ℕ) (w : Nibblewise f) where
+  up-16 : (x : ℕ) → f x / 65536 ≡ f (x / 65536)
+  up-16 x =
+      let e : f x / 65536 ≡ f x / 16 / 16 / 16 / 16 = omega arith in
+      let d : x / 16 / 16 / 16 / 16 ≡ x / 65536 = omega arith in
+      rw (e, w .up x, w .up (x / 16), w .up (x / 16 / 16), w .up (x / 16 / 16 / 16), d)
+
+  up-32 : (x : ℕ) → f x / 0x100000000 ≡ f (x / 0x100000000)
+  up-32 x =
+      let e : f x / 0x100000000 ≡ f x / 65536 / 65536 = omega arith in
+      let d : x / 65536 / 65536 ≡ x / 0x100000000 = omega arith in
+      rw (e, up-16 x, up-16 (x / 65536), d)
+
+  pub halves : (k m x : ℕ) → k < 0x100000000
+      → not (eqb (bitAnd (f x) (m * 0x100000000 + k)) 0)
+      ≡ (not (eqb (bitAnd (f x) k) 0) || not (eqb (bitAnd (f (x / 0x100000000)) m) 0))
+  halves k m x h =
+      rw (mask-halves (f x) m k h, mask-low (f x) k h, split-32 (bitAnd (f x / 0x100000000) m) (bitAnd (f x % 0x100000000) k), up-32 x)
 
 -- where f says of each of the sixteen codes what the test does, f under a mask says it of all the codes that the mask names
 module _ (f : ℕ → ℕ) (w : Nibblewise f) (test : ℕ → Bool) (all : upTo 16 (λ n. same (eqb (f n % 2) 1) (test n)) ≡ true) where
