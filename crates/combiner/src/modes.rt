@@ -90,12 +90,10 @@ pub fn combine(mode: u32, a: u8, b: u8, c: u8, x: u32, y: u32) -> u8
 pub fn factor(scale: u32) -> u32
     ensures { λ r. ⌜ (r ≡ factorOf scale) × (r ≤ 4) ⌝ }
 {
-    match scale {
-        0 => 1,
-        1 => 2,
-        2 => 4,
-        _ => 1,
+    if scale == 1 {
+        return 2;
     }
+    if scale == 2 { 4 } else { 1 }
 }
 
 pub fn times(x: u8, factor: u32) -> u8

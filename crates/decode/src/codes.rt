@@ -1,5 +1,5 @@
 // Codes without a name: a test for each kind of register, and the lowest id that holds one. The contracts cite specs/Codes.antt.
-// Nearly every state passes all tests, so they are first joined in one word without a branch; the lowest id is looked for only where that word isn't 0.
+// Nearly every state passes all tests, so that they are joined in one word without a branch, and the lowest id is looked for only where it isn't 0.
 ghost use mathlib.Core.Path.{_≡_};
 ghost use mathlib.Core.Bool.{not, _||_};
 ghost use lib.Dec.{eqb};
@@ -144,7 +144,7 @@ fn frame_first(cells: &[u32]) -> usize
 }
 
 // The lowest id of all; 0 for none.
-fn lowest_id(cells: &[u32]) -> usize
+pub fn lowest_id(cells: &[u32]) -> usize
     requires { ⌜ length (now cells) ≡ 768 ⌝ }
     ensures { λ r. ⌜ r ≡ lowest (checks (settingsIn (inCells (now (cells .entry))))) ⌝ }
 {
@@ -204,7 +204,7 @@ fn frame_lacks(cells: &[u32], rest: bool) -> bool
 }
 
 // Some register holds one.
-fn any_lacks(cells: &[u32]) -> bool
+pub fn any_lacks(cells: &[u32]) -> bool
     requires { ⌜ length (now cells) ≡ 768 ⌝ }
     ensures { λ r. ⌜ r ≡ anyLacks (checks (settingsIn (inCells (now (cells .entry))))) ⌝ }
 {
@@ -214,16 +214,4 @@ fn any_lacks(cells: &[u32]) -> bool
     let fog = bits_of(update_lacks(update)) | last;
     let middle = two_stages(cells, 0xD0, 0xD8, fog);
     two_stages(cells, 0xC0, 0xC8, middle) != 0
-}
-
-// The lowest id that holds a code without a name; 0 for none.
-pub fn nameless_id(cells: &[u32]) -> usize
-    requires { ⌜ length (now cells) ≡ 768 ⌝ }
-    ensures { λ r. ⌜ r ≡ lowest (checks (settingsIn (inCells (now (cells .entry))))) ⌝ }
-{
-    if any_lacks(cells) {
-        lowest_id(cells)
-    } else {
-        0
-    }
 }

@@ -8,7 +8,6 @@ ghost use Rattle.settings.specs.Framebuffer.{operationIn, formatIn};
 ghost use Rattle.settings.specs.Settings.{settingsIn};
 ghost use Rattle.fragment.specs.Drawn.{outcomeOf, operationUnbuilt, formatUnbuilt, unbuiltId, largest, drawnWith, drawnOf};
 use combiner::Given;
-use decode::Checked;
 use stores::Stored;
 use stores::Verdict;
 use words::Refusal;
@@ -120,8 +119,9 @@ pub fn draw(
 ) -> Drawn
     ensures { λ r. ⌜ r ≡ drawnOf (st (now (cells .entry)) (now (fog .entry)) (now (light .entry))) given incoming stored ⌝ }
 {
-    match decode::check(cells, fog, light) {
-        Checked::Refused(refusal) => Drawn::Refused(refusal),
-        Checked::Named => draw_with(cells, given, incoming, stored),
+    if decode::is_decodable(cells, fog, light) {
+        draw_with(cells, given, incoming, stored)
+    } else {
+        Drawn::Refused(decode::refusal_of(cells, fog, light))
     }
 }
