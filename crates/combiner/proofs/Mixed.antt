@@ -2,24 +2,33 @@
 use mathlib.Core.Path.{_≡_, refl}
 use mathlib.Core.Bool.{Bool, true, false}
 use mathlib.Core.List.{List}
-use Prim.Native.Nat.{ℕ, _/_, _%_, _^_}
+use Prim.Native.Nat.{ℕ, _/_, _%_, _^_, _≤_}
 use lib.Dec.{eqb}
-use lib.ListN.{getD, set}
+use lib.ListN.{getD, set, List·getD-eq-default}
 use borrow.Author.Tests.{eqb-true}
 use Rattle.numbers.specs.Pick.{pick}
 use Rattle.settings.specs.Ranges.{bits}
 use Rattle.settings.specs.declared.records.Stage.{Stage}
 use Rattle.combiner.specs.Dot.{dot3Of}
-use Rattle.combiner.specs.Modes.{combined, scaled}
+use Rattle.combiner.specs.Modes.{addedMultiplied, combined, scaled}
 use Rattle.combiner.specs.Operands.{Sources, sourceOf, rgbOperand, alphaOperand}
 use Rattle.combiner.specs.Stage.{joined, alphaMixed, stageOf}
 use Rattle.combiner.specs.Chain.{bufferAfter}
-use Rattle.combiner.specs.Words.{unpacked, rgbIn, rgbCombined, rgbScaled, ownAlpha, alphaFrom, colours, fromTable, tableAfter}
+use Rattle.combiner.specs.Words.{unpacked, rgbIn, each3, rgbCombined, rgbScaled, ownAlpha, alphaFrom, colours, fromTable, tableAfter}
 use Rattle.combiner.specs.declared.dot.Rgb.{Rgb}
 use Rattle.combiner.proofs.Parts.{source-at, colours-at, colours-set}
 
 pub same-joined : {x y : Rgb} {a b : ℕ} → x ≡ y → a ≡ b → joined x a ≡ joined y b
 same-joined p q = rw (p, q)
+
+-- a mode's third operand
+pub third : (f : ℕ → ℕ → ℕ → ℕ) {a b c c′ : Rgb} → c ≡ c′ → each3 f a b c ≡ each3 f a b c′
+third f e = rw e
+
+-- the last mode, and codes past it
+pub last-mode : (mode : ℕ) (a b c : Rgb) (dot : ℕ) → 9 ≤ mode → each3 addedMultiplied a b c ≡ rgbCombined mode a b c dot
+unfolding combined
+last-mode mode a b c dot h = rw (List·getD-eq-default, List·getD-eq-default, List·getD-eq-default)
 
 -- an RGB operand from a word of the table
 pub operand-at : (ws : List ℕ) (x code : ℕ) (a : Rgb)

@@ -3,9 +3,11 @@
 ghost use mathlib.Core.Path.{_≡_};
 ghost use Prim.Native.Nat.{_<_};
 ghost use Rattle.combiner.specs.Modes.{modulated, added, addedSigned, interpolated, subtracted, multipliedAdded, addedMultiplied};
-ghost use Rattle.combiner.specs.Words.{rgb, rgbIn, dotIn, each2, each3, rgbCombined, rgbScaled};
+ghost use Rattle.combiner.specs.Operands.{rgbOperand};
+ghost use Rattle.combiner.specs.Words.{unpacked, rgb, rgbIn, dotIn, each2, each3, rgbCombined, rgbScaled};
 use crate::dot;
 use crate::modes;
+use crate::operands;
 use crate::words;
 
 fn modulate_rgb(x: u32, y: u32) -> u32
@@ -101,21 +103,22 @@ fn dot_rgb(x: u32, y: u32) -> u32
     words::grey(dot::dot_words(x, y))
 }
 
-// One choice by the mode for all three channels; the dot3 is worked out only where a mode asks for it.
-pub fn mix_rgb(mode: u32, x: u32, y: u32, z: u32) -> u32
-    ensures { λ r. ⌜ rgbIn r ≡ rgbCombined mode (rgbIn x) (rgbIn y) (rgbIn z) (dotIn x y) ⌝ }
+// One choice by the mode for all three channels. x and y are the first two operands; the third, which its code names of a source, and the dot3 are
+// worked out only where a mode asks for them.
+pub fn mix_rgb(mode: u32, x: u32, y: u32, code: u32, source: u32) -> u32
+    ensures { λ r. ⌜ rgbIn r ≡ rgbCombined mode (rgbIn x) (rgbIn y) (rgbOperand code (unpacked source)) (dotIn x y) ⌝ }
 {
     match mode {
         0 => x,
         1 => modulate_rgb(x, y),
         2 => add_rgb(x, y),
         3 => add_signed_rgb(x, y),
-        4 => interpolate_rgb(x, y, z),
+        4 => interpolate_rgb(x, y, operands::rgb_operand(code, source)),
         5 => subtract_rgb(x, y),
         6 => dot_rgb(x, y),
         7 => dot_rgb(x, y),
-        8 => multiply_add_rgb(x, y, z),
-        _ => add_multiply_rgb(x, y, z),
+        8 => multiply_add_rgb(x, y, operands::rgb_operand(code, source)),
+        _ => add_multiply_rgb(x, y, operands::rgb_operand(code, source)),
     }
 }
 

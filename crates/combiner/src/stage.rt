@@ -20,8 +20,7 @@ fn own_alpha(table: &[u32; 16], source: u32, operand: u32, mode: u32, x: u32, y:
     let alpha2 = table[((source >> 24) % 16) as usize];
     let a = operands::alpha_operand((operand >> 12) % 8, alpha0);
     let b = operands::alpha_operand((operand >> 16) % 8, alpha1);
-    let c = operands::alpha_operand((operand >> 20) % 8, alpha2);
-    modes::combine(mode, a, b, c, x, y)
+    modes::combine(mode, a, b, (operand >> 20) % 8, alpha2, x, y)
 }
 
 // Before its scale. Dot3 RGBA puts its result, which is then mixed's red, in alpha too, and the alpha mode isn't read.
@@ -64,8 +63,7 @@ fn run_stage(table: &[u32; 16], source: u32, operand: u32, combiner: u32, scale:
     let rgb2 = table[((source >> 8) % 16) as usize];
     let x = operands::rgb_operand(operand % 16, rgb0);
     let y = operands::rgb_operand((operand >> 4) % 16, rgb1);
-    let z = operands::rgb_operand((operand >> 8) % 16, rgb2);
-    let mixed = mix::mix_rgb(combiner % 16, x, y, z);
+    let mixed = mix::mix_rgb(combiner % 16, x, y, (operand >> 8) % 16, rgb2);
     let alpha = mix_alpha(table, source, operand, combiner, x, y, mixed);
     finish(scale, mixed, alpha)
 }

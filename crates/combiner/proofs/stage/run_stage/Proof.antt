@@ -1,5 +1,5 @@
 -- As the calls ensure. Assumes nothing.
-use mathlib.Core.Path.{_∙_}
+use mathlib.Core.Path.{refl, _∙_}
 use Prim.Native.Nat.{_/_, _%_, _^_}
 use Rattle.combiner.proofs.Mixed.{operand-at, stage-parts}
 use borrow.Author.Needs.{needs}
@@ -39,9 +39,6 @@ rgb-operand-requires c κs = search needs
 rgb-operand-requires-2 : tie.Need-rgb-operand-requires-2
 rgb-operand-requires-2 c κs = search needs
 
-rgb-operand-requires-3 : tie.Need-rgb-operand-requires-3
-rgb-operand-requires-3 c κs = search needs
-
 mix-rgb-requires : tie.Need-mix-rgb-requires
 mix-rgb-requires c κs = search needs
 
@@ -53,13 +50,13 @@ finish-requires c κs = search needs
 
 returns : tie.Need-returns
 returns c =
-    let a = c .before .before .before .before .before .before .before .before .before .args in
+    let a = c .before .before .before .before .before .before .before .before .args in
     let ws = a .table .now in
     c .finish .ensures ∙
     stage-parts _ _ _ _ _ _ _
-    (operand-at ws (a .source) (a .operand % 16) _ (c .before .before .before .before .before .rgb-operand .ensures))
-    (operand-at ws (a .source / 2 ^ 4) (a .operand / 2 ^ 4 % 16) _ (c .before .before .before .before .rgb-operand2 .ensures))
-    (operand-at ws (a .source / 2 ^ 8) (a .operand / 2 ^ 8 % 16) _ (c .before .before .before .rgb-operand3 .ensures))
+    (operand-at ws (a .source) (a .operand % 16) _ (c .before .before .before .before .rgb-operand .ensures))
+    (operand-at ws (a .source / 2 ^ 4) (a .operand / 2 ^ 4 % 16) _ (c .before .before .before .rgb-operand2 .ensures))
+    (operand-at ws (a .source / 2 ^ 8) (a .operand / 2 ^ 8 % 16) _ refl)
     (c .before .before .mix-rgb .ensures)
     (c .before .mix-alpha .ensures)
 
@@ -78,7 +75,6 @@ run-stage-spec =
     element-copy-out-rgb2
     rgb-operand-requires
     rgb-operand-requires-2
-    rgb-operand-requires-3
     mix-rgb-requires
     mix-alpha-requires
     finish-requires
