@@ -54,8 +54,8 @@ fn finish(scale: u32, mixed: u32, alpha: u8) -> u32
     low + high as u32 * 0x1000000
 }
 
-// Every part of a stage.
-fn run_stage(table: &[u32; 16], source: u32, operand: u32, combiner: u32, scale: u32) -> u32
+// A stage's result, every part of it; its constant stands in the table.
+pub fn run_stage(table: &[u32; 16], source: u32, operand: u32, combiner: u32, scale: u32) -> u32
     ensures { λ r. ⌜ unpacked r ≡ fromTable (stageFrom source operand combiner scale) (colours (now (table .entry))) ⌝ }
 {
     let rgb0 = table[(source % 16) as usize];
@@ -79,7 +79,7 @@ fn is_idle(source: u32, operand: u32, combiner: u32, scale: u32) -> bool
         & ((scale % 4 == 0) & ((scale >> 16) % 4 == 0))
 }
 
-// A stage's result; its constant stands in the table. An idle stage is passed over.
+// A stage's result, where an idle stage is passed over.
 pub fn result(table: &[u32; 16], source: u32, operand: u32, combiner: u32, scale: u32) -> u32
     ensures { λ r. ⌜ unpacked r ≡ fromTable (stageFrom source operand combiner scale) (colours (now (table .entry))) ⌝ }
 {
