@@ -7,9 +7,8 @@ use Rattle.numbers.specs.Pick.{pick}
 use Rattle.numbers.proofs.Tests.{and-true}
 use Rattle.registers.specs.State.{State, sized}
 use Rattle.settings.specs.declared.records.Settings.{Settings}
-use Rattle.words.specs.declared.Refusal.{Refusal}
 use Rattle.decode.specs.Codes.{checks, anyLacks}
-use Rattle.decode.specs.Decoded.{settingsOf, namelessId, refusal, decodedOf, decodable, refusalOf}
+use Rattle.decode.specs.Decoded.{settingsOf, namelessId, refusal, decodedOf, decodable, lengthRefusal, codeRefusal, refusalOf}
 use Rattle.decode.specs.declared.Decoded.the-variants.{Held, Refused}
 use Rattle.decode.proofs.Lowest.{lowest-none}
 
@@ -24,11 +23,11 @@ module _ (s : State) where
   unfolding decodable
   by-codes e = rw e (sym (lowest-none (settingsOf s)))
 
-  pub length-refusal : sized s ≡ false → refusalOf s ≡ record { number = 6; place = 0 }
+  pub length-refusal : sized s ≡ false → refusalOf s ≡ lengthRefusal
   unfolding refusalOf
   length-refusal e = rw e
 
-  pub code-refusal : sized s ≡ true → refusalOf s ≡ record { number = 13; place = namelessId s }
+  pub code-refusal : sized s ≡ true → refusalOf s ≡ codeRefusal (namelessId s)
   unfolding refusalOf
   code-refusal e = rw e
 
@@ -36,11 +35,26 @@ module _ (s : State) where
   unfolding decodable
   decodable-sized e = and-true (sized s) (eqb (namelessId s) 0) e .0
 
--- `decode`, BY BOTH
+-- `decode`, BY BOTH TESTS
+
+module _ (s : State) where
+  pub length-refused : sized s ≡ false → decodedOf s ≡ refusal 6 0
+  unfolding decodedOf
+  length-refused e = rw e
+
+  pub code-refused : sized s ≡ true → anyLacks (checks (settingsOf s)) ≡ true → decodedOf s ≡ refusal 13 (namelessId s)
+  unfolding decodedOf
+  code-refused e l = rw (e, lowest-none (settingsOf s), l)
+
+  pub all-named : sized s ≡ true → anyLacks (checks (settingsOf s)) ≡ false → decodedOf s ≡ Held (settingsOf s)
+  unfolding decodedOf
+  all-named e l = rw (e, lowest-none (settingsOf s), l)
+
+-- `decode`, BY WHETHER IT IS DECODABLE
 
 by-tests : (a b : Bool) (x : Settings) (i : ℕ)
     → pick a (pick b (Held x) (refusal 13 i)) (refusal 6 0)
-    ≡ pick (a && b) (Held x) (Refused (pick a (record { number = 13; place = i }) (record { number = 6; place = 0 })))
+    ≡ pick (a && b) (Held x) (Refused (pick a (codeRefusal i) lengthRefusal))
 by-tests true true x i = refl
 by-tests true false x i = refl
 by-tests false b x i = refl

@@ -49,5 +49,11 @@ unfoldable pub decodable : State → Bool
 decodable s = sized s && eqb (namelessId s) 0
 
 -- the refusal where it is
+abbrev pub lengthRefusal : Refusal
+lengthRefusal = record { number = 6; place = 0 }
+
+abbrev pub codeRefusal : ℕ → Refusal
+codeRefusal i = record { number = 13; place = i }
+
 unfoldable pub refusalOf : State → Refusal
-refusalOf s = pick (sized s) (record { number = 13; place = namelessId s }) (record { number = 6; place = 0 })
+refusalOf s = pick (sized s) (codeRefusal (namelessId s)) lengthRefusal

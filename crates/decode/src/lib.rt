@@ -1,7 +1,11 @@
 // The decoded state of the 66 held registers: their settings, or a refusal. The contracts cite specs/Decoded.antt.
 ghost use mathlib.Core.Path.{_≡_};
 ghost use Rattle.registers.specs.State.{st};
-ghost use Rattle.decode.specs.Decoded.{decodedOf, decodable, refusalOf};
+ghost use lib.ListN.{length};
+ghost use Rattle.settings.specs.Ranges.{inCells};
+ghost use Rattle.settings.specs.Settings.{settingsIn};
+ghost use Rattle.decode.specs.Codes.{checks, lowest};
+ghost use Rattle.decode.specs.Decoded.{decodedOf, decodable, lengthRefusal, codeRefusal, refusalOf};
 use settings::records::Settings;
 use words::Refusal;
 
@@ -23,30 +27,45 @@ pub fn is_decodable(cells: &[u32], fog: &[u32], light: &[u32]) -> bool
     !codes::any_lacks(cells)
 }
 
-// The refusal of a state that isn't decodable: 6 at place 0, else 13 at the lowest id that holds a code without a name. A call of its own, so that a
-// state that is decodable doesn't pay for the search.
-pub fn refusal_of(cells: &[u32], fog: &[u32], light: &[u32]) -> Refusal
-    ensures { λ r. ⌜ r ≡ refusalOf (st (now (cells .entry)) (now (fog .entry)) (now (light .entry))) ⌝ }
+fn length_refusal() -> Refusal
+    ensures { λ r. ⌜ r ≡ lengthRefusal ⌝ }
 {
-    if !registers::is_sized(cells, fog, light) {
-        return Refusal {
-            number: words::BUFFER_LENGTH,
-            place: 0,
-        };
+    Refusal {
+        number: words::BUFFER_LENGTH,
+        place: 0,
     }
+}
+
+fn code_refusal(cells: &[u32]) -> Refusal
+    requires { ⌜ length (now cells) ≡ 768 ⌝ }
+    ensures { λ r. ⌜ r ≡ codeRefusal (lowest (checks (settingsIn (inCells (now (cells .entry)))))) ⌝ }
+{
     Refusal {
         number: words::CODE_WITHOUT_NAME,
         place: codes::lowest_id(cells),
     }
 }
 
-// The decoded state of the three buffers; or refused as `refusal_of` says.
+// The refusal of a state that isn't decodable: 6 at place 0, else 13 at the lowest id that holds a code without a name. A call of its own, so that a
+// state that is decodable doesn't pay for the search.
+pub fn refusal_of(cells: &[u32], fog: &[u32], light: &[u32]) -> Refusal
+    ensures { λ r. ⌜ r ≡ refusalOf (st (now (cells .entry)) (now (fog .entry)) (now (light .entry))) ⌝ }
+{
+    if !registers::is_sized(cells, fog, light) {
+        return length_refusal();
+    }
+    code_refusal(cells)
+}
+
+// The decoded state of the three buffers; or refused with 6 at place 0, or 13 at the lowest id that holds a code without a name.
 pub fn decode(cells: &[u32], fog: &[u32], light: &[u32]) -> Decoded
     ensures { λ r. ⌜ r ≡ decodedOf (st (now (cells .entry)) (now (fog .entry)) (now (light .entry))) ⌝ }
 {
-    if is_decodable(cells, fog, light) {
-        Decoded::Held(settings::read_settings(cells))
-    } else {
-        Decoded::Refused(refusal_of(cells, fog, light))
+    if !registers::is_sized(cells, fog, light) {
+        return Decoded::Refused(length_refusal());
     }
+    if codes::any_lacks(cells) {
+        return Decoded::Refused(code_refusal(cells));
+    }
+    Decoded::Held(settings::read_settings(cells))
 }
