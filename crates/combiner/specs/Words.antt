@@ -1,5 +1,5 @@
--- Not of the document: colours as words, red in the low byte, as a colour register holds them; and the table of colours by code, which the code
--- keeps in one array and changes from stage to stage.
+-- Not of the document: colours as words, red in the low byte, as a colour register holds them; and the table of colours by code, which
+-- the code keeps in one array and changes from stage to stage.
 use mathlib.Core.Bool.{Bool, _&&_}
 use mathlib.Core.List.{List, map}
 use Prim.Native.Nat.{ℕ}

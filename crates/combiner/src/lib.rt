@@ -1,6 +1,7 @@
-// The combiner: six stages, each of which may read what the stages before it gave. The contract of `combine` cites specs/Chain.antt, by the
-// registers of the cells. Nothing is decoded first: each register is read where it is used. The sixteen colours that a source code can name are
-// kept as words in one array, in which a stage changes three; specs/Words.antt says how words and array stand for the document's colours.
+// The combiner: six stages, each of which may read what the stages before it gave. The contract of `combine` cites specs/Chain.antt, by
+// the registers of the cells. Nothing is decoded first: each register is read where it is used. The sixteen colours that a source code
+// can name are kept as words in one array, in which a stage changes three; specs/Words.antt says how words and array stand for the
+// document's colours.
 ghost use mathlib.Core.Path.{_≡_};
 ghost use Prim.Native.Nat.{_<_};
 ghost use lib.ListN.{length, getD};
@@ -131,7 +132,8 @@ fn previous_in(table: &[u32; 16]) -> Colour
     words::colour_of(table[15])
 }
 
-// The combiner's result for the colours given with a fragment, by the registers of the cells. For `fragment`, which tests their length first.
+// The combiner's result for the colours given with a fragment, by the registers of the cells. For `fragment`, which tests their length
+// first.
 pub fn combine(cells: &[u32], g: Given) -> Colour
     requires { ⌜ length (now cells) ≡ 768 ⌝ }
     ensures { λ r. ⌜ r ≡ combinerBy (now (cells .entry)) g ⌝ }

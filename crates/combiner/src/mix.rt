@@ -103,8 +103,8 @@ fn dot_rgb(x: u32, y: u32) -> u32
     words::grey(dot::dot_words(x, y))
 }
 
-// One choice by the mode for all three channels. x and y are the first two operands; the third, which its code names of a source, and the dot3 are
-// worked out only where a mode asks for them.
+// One choice by the mode for all three channels. x and y are the first two operands; the third, which its code names of a source, and the
+// dot3 are worked out only where a mode asks for them.
 pub fn mix_rgb(mode: u32, x: u32, y: u32, code: u32, source: u32) -> u32
     ensures { λ r. ⌜ rgbIn r ≡ rgbCombined mode (rgbIn x) (rgbIn y) (rgbOperand code (unpacked source)) (dotIn x y) ⌝ }
 {

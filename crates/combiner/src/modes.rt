@@ -1,8 +1,8 @@
 // One channel: the combine modes and the scales. The contracts cite specs/Modes.antt.
 ghost use mathlib.Core.Path.{_≡_};
 ghost use Prim.Native.Nat.{_≤_, _*_, _/_};
-ghost use Rattle.combiner.specs.Modes.{toByte, modulated, added, addedSigned, interpolated, subtracted, multipliedAdded, addedMultiplied};
-ghost use Rattle.combiner.specs.Modes.{combined, factorOf};
+ghost use Rattle.combiner.specs.Modes.{toByte, modulated, added, addedSigned, interpolated, subtracted};
+ghost use Rattle.combiner.specs.Modes.{multipliedAdded, addedMultiplied, combined, factorOf};
 ghost use Rattle.combiner.specs.Operands.{alphaOperand};
 ghost use Rattle.combiner.specs.Words.{unpacked, dotIn};
 use crate::dot;
@@ -71,8 +71,8 @@ pub fn add_multiply(a: u8, b: u8, c: u8) -> u8
     modulate(add(a, b), c)
 }
 
-// Alpha by its mode, before its scale. a and b are the first two operands; the third, which its code names of a source, and the dot3 of the first two RGB
-// operands, x and y, are worked out only where the mode asks for them.
+// Alpha by its mode, before its scale. a and b are the first two operands; the third, which its code names of a source, and the dot3 of
+// the first two RGB operands, x and y, are worked out only where the mode asks for them.
 pub fn combine(mode: u32, a: u8, b: u8, code: u32, source: u32, x: u32, y: u32) -> u8
     ensures { λ r. ⌜ r ≡ combined mode a b (alphaOperand code (unpacked source)) (dotIn x y) ⌝ }
 {

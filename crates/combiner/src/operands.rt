@@ -4,8 +4,8 @@ ghost use Rattle.combiner.specs.Operands.{oneMinus, rgbPart, rgbOperand,
 ghost use Rattle.combiner.specs.Words.{unpacked, rgbIn, rgbParts, rgbOneMinus};
 use crate::words;
 
-// The byte of a source that an RGB operand's code names, by a shift: the number has for each half code from 0 up the bit at which the byte begins, 24
-// for alpha, 0, 8, 16 for red, green, blue, and 32, past the word, where the code names none.
+// The byte of a source that an RGB operand's code names, by a shift: the number has for each half code from 0 up the bit at which the
+// byte begins, 24 for alpha, 0, 8, 16 for red, green, blue, and 32, past the word, where the code names none.
 fn byte_part(code: u32, x: u32) -> u8
     ensures { λ r. ⌜ r ≡ rgbPart code (unpacked x) 0 ⌝ }
 {

@@ -46,8 +46,8 @@ fn code_refusal(cells: &[u32]) -> Refusal
     }
 }
 
-// The refusal of a state that isn't decodable: 6 at place 0, else 13 at the lowest id that holds a code without a name. A call of its own, so that a
-// state that is decodable doesn't pay for the search.
+// The refusal of a state that isn't decodable: 6 at place 0, else 13 at the lowest id that holds a code without a name. A call of its
+// own, so that a state that is decodable doesn't pay for the search.
 pub fn refusal_of(cells: &[u32], fog: &[u32], light: &[u32]) -> Refusal
     ensures { λ r. ⌜ r ≡ refusalOf (st (now (cells .entry)) (now (fog .entry)) (now (light .entry))) ⌝ }
 {

@@ -107,8 +107,8 @@ fn draw_with(cells: &[u32], g: Given, incoming: u32, stored: Stored) -> Drawn
     Drawn::Done(find_outcome(cells, g, incoming, stored))
 }
 
-// What becomes of a fragment: the verdict, and the colour, stencil and depth that are then stored; or refused with 6 at 0, 13 or 14 at the lowest id,
-// or 12 at 0 for the incoming depth, 1 for the stored.
+// What becomes of a fragment: the verdict, and the colour, stencil and depth that are then stored; or refused with 6 at 0, 13 or 14 at
+// the lowest id, or 12 at 0 for the incoming depth, 1 for the stored.
 pub fn draw(
     cells: &[u32],
     fog: &[u32],
