@@ -2,14 +2,12 @@
 use mathlib.Core.Path.{refl}
 use contract.Lifetimes.{Lfts}
 use denote.Ref.{now}
-use Rattle.settings.specs.Ranges.{inCells}
-use Rattle.settings.specs.Stages.{stagesIn, bufferFogIn}
 use borrow.Fn.Kinds.{Dens}
 use Rattle.numbers.specs.Settled.{Settles, settled}
-use Rattle.combiner.specs.Chain.{combinerOf}
+use Rattle.combiner.specs.Words.{combinerBy}
 use Rattle.combiner.proofs.combine.Reads as combine
 use Rattle.combiner.proofs.combine.Kinds as combine-kinds
 
 pub combine-settled : (κs : Lfts 1) (a : Dens κs combine-kinds.ps) → Settles (λ e. tt {0}) (combine.Post κs a)
 combine-settled κs a =
-    settled _ _ (λ r. r) (λ r r′ e. e) (combinerOf (stagesIn (inCells (now (a .0)))) (bufferFogIn (inCells (now (a .0)))) (a .1 .0)) tt (λ r e p. (p, refl))
+    settled _ _ (λ r. r) (λ r r′ e. e) (combinerBy (now (a .0)) (a .1 .0)) tt (λ r e p. (p, refl))

@@ -1,10 +1,9 @@
 -- A stage that hands on Previous as it is. Assumes nothing.
 use mathlib.Core.Path.{_≡_, sym, _∙_}
-use mathlib.Core.Bool.{true, _&&_}
+use mathlib.Core.Bool.{true}
 use mathlib.Core.List.{List}
 use Prim.Native.Nat.{ℕ}
 use native.Mathlib.Omega.{arith}
-use lib.Dec.{eqb}
 use lib.ListN.{getD}
 use borrow.Author.Tests.{eqb-true}
 use Rattle.numbers.proofs.Tests.{and-true}
@@ -26,7 +25,7 @@ module _ (s : Stage) (cs : List Colour) (h : Bytes (getD cs 15 black)) where
   handed-on e1 e2 e3 e4 e5 e6 e7 e8 =
       rw (e1, e2, e3, e4, e5, e6, e7, e8) (same-colour (omega arith) (omega arith) (omega arith) (omega arith))
 
-  pub idle-result : idle s ≡ true → fromTable s cs ≡ getD cs 15 black
+  idle-result : idle s ≡ true → fromTable s cs ≡ getD cs 15 black
   idle-result e =
       let a = and-true _ _ e in
       let b = and-true _ _ (a .0) in

@@ -2,26 +2,38 @@
 use mathlib.Core.Path.{_≡_, refl}
 use mathlib.Core.Bool.{Bool, true, false}
 use mathlib.Core.List.{List}
-use Prim.Native.Nat.{ℕ, _/_, _%_, _^_}
+use Prim.Native.Nat.{ℕ, _/_, _%_, _^_, _≤_}
 use lib.Dec.{eqb}
-use lib.ListN.{getD, set}
+use lib.ListN.{getD, set, List·getD-eq-default}
 use borrow.Author.Tests.{eqb-true}
 use Rattle.numbers.specs.Pick.{pick}
 use Rattle.settings.specs.Ranges.{bits}
-use Rattle.settings.specs.Stages.{sourceIn, operandIn}
 use Rattle.settings.specs.declared.records.Stage.{Stage}
 use Rattle.combiner.specs.Dot.{dot3Of}
-use Rattle.combiner.specs.Modes.{combined, scaled}
-use Rattle.combiner.specs.Operands.{sourcesOf, rgbOperand, alphaOperand}
+use Rattle.combiner.specs.Modes.{addedMultiplied, combined, scaled}
+use Rattle.combiner.specs.Operands.{Sources, sourceOf, rgbOperand, alphaOperand}
 use Rattle.combiner.specs.Stage.{joined, alphaMixed, stageOf}
 use Rattle.combiner.specs.Chain.{bufferAfter}
-use Rattle.combiner.specs.Words.{unpacked, rgbIn, rgbCombined, rgbScaled, ownAlpha, colours, fromTable, tableAfter}
+use Rattle.combiner.specs.Words.{unpacked, rgbIn, each3, rgbCombined, rgbScaled, ownAlpha, alphaFrom, colours, fromTable, tableAfter}
 use Rattle.combiner.specs.declared.dot.Rgb.{Rgb}
-use Rattle.combiner.specs.declared.operands.Sources.{Sources}
 use Rattle.combiner.proofs.Parts.{source-at, colours-at, colours-set}
 
 pub same-joined : {x y : Rgb} {a b : ℕ} → x ≡ y → a ≡ b → joined x a ≡ joined y b
 same-joined p q = rw (p, q)
+
+-- a mode's third operand
+pub third : (f : ℕ → ℕ → ℕ → ℕ) {a b c c′ : Rgb} → c ≡ c′ → each3 f a b c ≡ each3 f a b c′
+third f e = rw e
+
+-- the last mode, and codes past it
+pub last-mode : (mode : ℕ) (a b c : Rgb) (dot : ℕ) → 9 ≤ mode → each3 addedMultiplied a b c ≡ rgbCombined mode a b c dot
+unfolding combined
+last-mode mode a b c dot h = rw (List·getD-eq-default, List·getD-eq-default, List·getD-eq-default)
+
+-- an RGB operand from a word of the table
+pub operand-at : (ws : List ℕ) (x code : ℕ) (a : Rgb)
+    → a ≡ rgbOperand code (unpacked (getD ws (x % 16) 0)) → a ≡ rgbOperand code (sourceOf (colours ws) (x % 16))
+operand-at ws x code a e = rw (source-at ws x) e
 
 -- alpha by its own mode, from the words of the table
 pub own-at : (ws : List ℕ) (source operand mode dot : ℕ)
@@ -30,7 +42,7 @@ pub own-at : (ws : List ℕ) (source operand mode dot : ℕ)
     (alphaOperand (bits operand 16 18) (unpacked (getD ws (source / 2 ^ 20 % 16) 0)))
     (alphaOperand (bits operand 20 22) (unpacked (getD ws (source / 2 ^ 24 % 16) 0)))
     dot
-    ≡ ownAlpha mode (operandIn (bits operand)) (sourcesOf (colours ws) (sourceIn (bits source))) dot
+    ≡ alphaFrom ws source operand mode dot
 own-at ws source operand mode dot =
     rw (source-at ws (source / 2 ^ 16), source-at ws (source / 2 ^ 20), source-at ws (source / 2 ^ 24))
 
@@ -49,7 +61,8 @@ pub stage-parts : (s : Stage) (from : Sources) (a b c m : Rgb) (alpha : ℕ)
     → joined (rgbScaled (s .scale .rgb) m) (scaled (s .scale .alpha) alpha) ≡ stageOf s from
 unfolding alphaMixed stageOf
 stage-parts s from a b c m alpha ea eb ec em el =
-    rw (el, em, red-dot (s .combiner .rgb) (a .red) (b .red) (c .red) (dot3Of a b) (ownAlpha (s .combiner .alpha) (s .operand) from (dot3Of a b)) _ refl, ea, eb, ec)
+    let own = ownAlpha (s .combiner .alpha) (s .operand) from (dot3Of a b) in
+    rw (el, em, red-dot (s .combiner .rgb) (a .red) (b .red) (c .red) (dot3Of a b) own _ refl, ea, eb, ec)
 
 -- the table after a stage, from what the code stores
 pub step-table : (ws : List ℕ) (s : Stage) (k rgb alpha buffer result : ℕ)

@@ -1,22 +1,24 @@
 -- Colours as words: what a word's parts are, and the table of words. Assumes nothing.
 use mathlib.Core.Path.{_≡_, refl}
-use mathlib.Core.List.{List, [], _∷_, map}
+use mathlib.Core.List.{List, [], _∷_}
 use Prim.Native.Nat.{ℕ, zero, suc, _+_, _-_, _*_, _/_, _%_, _^_, _<_, _≤_}
 use native.Mathlib.Omega.{arith}
+use lib.Dec.{eqb}
 use lib.ListN.{getD, set, List·getD-map}
+use Rattle.numbers.specs.Pick.{pick}
 use Rattle.settings.specs.declared.records.Colour.{Colour}
 use Rattle.settings.proofs.Bytes.{Bytes}
-use Rattle.combiner.specs.Operands.{black, sourceOf, alphaPart}
+use Rattle.combiner.specs.Operands.{black, sourceOf, rgbPart, alphaPart}
 use Rattle.combiner.specs.Stage.{joined}
 use Rattle.combiner.specs.Words.{unpacked, rgb, rgbIn, colours}
-use Rattle.combiner.specs.declared.dot.Rgb.{Rgb}
 
 -- EQUAL CHANNELS
 
 abbrev pub colour : ℕ → ℕ → ℕ → ℕ → Colour
 colour r g b a = record { red = r; green = g; blue = b; alpha = a }
 
-pub same-colour : {r g b a r′ g′ b′ a′ : ℕ} → r ≡ r′ → g ≡ g′ → b ≡ b′ → a ≡ a′ → colour r g b a ≡ colour r′ g′ b′ a′
+pub same-colour : {r g b a r′ g′ b′ a′ : ℕ}
+    → r ≡ r′ → g ≡ g′ → b ≡ b′ → a ≡ a′ → colour r g b a ≡ colour r′ g′ b′ a′
 same-colour p q s t = cc
 
 pub same-rgb : {r g b r′ g′ b′ : ℕ} → r ≡ r′ → g ≡ g′ → b ≡ b′ → rgb r g b ≡ rgb r′ g′ b′
@@ -56,13 +58,34 @@ unpacked-bytes x = record { red = omega arith; green = omega arith; blue = omega
 
 -- a byte of a word by a shift
 by-shift : (half x : ℕ) → half < 4
-    → x / 2 ^ ((half * 8 + 24) % 32) % 256 ≡ getD (unpacked x .alpha ∷ unpacked x .red ∷ unpacked x .green ∷ unpacked x .blue ∷ []) half 0
+    → x / 2 ^ ((half * 8 + 24) % 32) % 256
+    ≡ getD (unpacked x .alpha ∷ unpacked x .red ∷ unpacked x .green ∷ unpacked x .blue ∷ []) half 0
 unfolding unpacked
 by-shift zero x h = refl
 by-shift (suc zero) x h = omega arith
 by-shift (suc (suc zero)) x h = refl
 by-shift (suc (suc (suc zero))) x h = refl
 by-shift (suc (suc (suc (suc n)))) x h = absurd (omega arith)
+
+-- the first bits of the parts that RGB operands name, eight bits for each half code
+byte-by-shift : (half x : ℕ) → half < 8 → x < 0x100000000
+    → x / 2 ^ (0x2010200820001820 / 2 ^ (half * 8) % 64) % 256
+    ≡ pick (eqb half 0) 0
+    (getD (0 ∷ unpacked x .alpha ∷ unpacked x .red ∷ 0 ∷ unpacked x .green ∷ 0 ∷ unpacked x .blue ∷ 0 ∷ []) half 0)
+unfolding unpacked
+byte-by-shift zero x h k = omega arith
+byte-by-shift (suc zero) x h k = refl
+byte-by-shift (suc (suc zero)) x h k = omega arith
+byte-by-shift (suc (suc (suc zero))) x h k = omega arith
+byte-by-shift (suc (suc (suc (suc zero)))) x h k = refl
+byte-by-shift (suc (suc (suc (suc (suc zero))))) x h k = omega arith
+byte-by-shift (suc (suc (suc (suc (suc (suc zero)))))) x h k = refl
+byte-by-shift (suc (suc (suc (suc (suc (suc (suc zero))))))) x h k = omega arith
+byte-by-shift (suc (suc (suc (suc (suc (suc (suc (suc n)))))))) x h k = absurd (omega arith)
+
+pub part-by-shift : (code x : ℕ) → x < 0x100000000
+    → x / 2 ^ (0x2010200820001820 / 2 ^ (code / 2 % 8 * 8) % 64) % 256 ≡ rgbPart code (unpacked x) 0
+part-by-shift code x k = byte-by-shift (code / 2 % 8) x (omega arith) k
 
 pub alpha-by-shift : (code x : ℕ) → x / 2 ^ ((code / 2 % 4 * 8 + 24) % 32) % 256 ≡ alphaPart code (unpacked x)
 alpha-by-shift code x = by-shift (code / 2 % 4) x (omega arith)

@@ -5,10 +5,10 @@ use Rattle.settings.specs.declared.records.Stage.{Stage}
 use Rattle.settings.specs.declared.records.Stages.{Stages}
 use Rattle.settings.specs.declared.records.BufferFog.{BufferFog}
 use Rattle.settings.proofs.Bytes.{Bytes}
+use Rattle.combiner.specs.Operands.{Sources}
 use Rattle.combiner.specs.Stage.{alphaMixed, stageOf}
 use Rattle.combiner.specs.Chain.{resultOf, combinerOf}
 use Rattle.combiner.specs.declared.Given.{Given}
-use Rattle.combiner.specs.declared.operands.Sources.{Sources}
 
 alpha-byte : (s : Stage) (from : Sources) (dot : ℕ) → alphaMixed s from dot ≤ 255
 unfolding alphaMixed

@@ -1,5 +1,5 @@
 -- The table from stage to stage is what the stages see. Assumes nothing.
-use mathlib.Core.Path.{_≡_, refl, ap, sym, _∙_}
+use mathlib.Core.Path.{_≡_, refl}
 use mathlib.Core.List.{List}
 use Prim.Native.Nat.{ℕ}
 use lib.ListN.{getD}
@@ -9,13 +9,12 @@ use Rattle.settings.specs.declared.records.Stages.{Stages}
 use Rattle.settings.specs.declared.records.BufferFog.{BufferFog}
 use Rattle.settings.specs.Ranges.{inCells}
 use Rattle.settings.specs.Stages.{stagesIn, bufferFogIn}
-use Rattle.combiner.specs.Operands.{black, byCode}
+use Rattle.combiner.specs.Operands.{Seen, black, byCode}
 use Rattle.combiner.specs.Chain.{resultOf, seenAfter, atFirst, combinerOf}
-use Rattle.combiner.specs.Words.{unpacked, colours, tableAfter, tableAtLast}
+use Rattle.combiner.specs.Words.{unpacked, tableAfter, tableAtLast, tableBy, combinerBy}
 use Rattle.combiner.specs.declared.Given.{Given}
-use Rattle.combiner.specs.declared.Seen.{Seen}
-use Rattle.combiner.proofs.Parts.{colours-at}
 
+-- one stage: the table by code, before and after
 table-given : (g : Given) (c : Colour) (seen : Seen) (s : Stage) (rgb alpha : ℕ)
     → tableAfter s rgb alpha (byCode g c seen) ≡ byCode g (s .colour) (seenAfter g s rgb alpha seen)
 unfolding tableAfter seenAfter resultOf
@@ -45,6 +44,5 @@ unfolding unpacked
 fd-colour cells = refl
 
 pub table-word : (cells : List ℕ) (g : Given)
-    → getD (tableAtLast (stagesIn (inCells cells)) (bufferFogIn (inCells cells)) (byCode g black (atFirst (unpacked (getD cells 0xFD 0))))) 15 black
-    ≡ combinerOf (stagesIn (inCells cells)) (bufferFogIn (inCells cells)) g
+    → getD (tableBy cells (byCode g black (atFirst (unpacked (getD cells 0xFD 0))))) 15 black ≡ combinerBy cells g
 table-word cells g = rw (fd-colour cells) (table-result (stagesIn (inCells cells)) (bufferFogIn (inCells cells)) g)

@@ -6,10 +6,9 @@ use Rattle.settings.specs.declared.records.Colour.{Colour}
 use Rattle.settings.specs.declared.records.Stage.{Stage}
 use Rattle.settings.specs.declared.records.Stages.{Stages}
 use Rattle.settings.specs.declared.records.BufferFog.{BufferFog}
-use Rattle.combiner.specs.Operands.{black, byCode, sourcesOf}
+use Rattle.combiner.specs.Operands.{Seen, black, byCode, sourcesOf}
 use Rattle.combiner.specs.Stage.{stageOf}
 use Rattle.combiner.specs.declared.Given.{Given}
-use Rattle.combiner.specs.declared.Seen.{Seen}
 
 -- a stage's result, from what it sees
 unfoldable pub resultOf : Given → Stage → Seen → Colour

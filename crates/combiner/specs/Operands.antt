@@ -7,9 +7,21 @@ use Rattle.numbers.specs.Pick.{pick}
 use Rattle.settings.specs.declared.records.Colour.{Colour}
 use Rattle.settings.specs.declared.records.Source.{Source}
 use Rattle.combiner.specs.declared.Given.{Given}
-use Rattle.combiner.specs.declared.Seen.{Seen}
 use Rattle.combiner.specs.declared.dot.Rgb.{Rgb}
-use Rattle.combiner.specs.declared.operands.Sources.{Sources}
+
+-- what a stage sees as Previous and as Previous buffer
+pub record Seen : Type 0 where
+  pub previous : Colour
+  pub buffer : Colour
+
+-- the colours that a stage's source codes name
+pub record Sources : Type 0 where
+  pub rgb0 : Colour
+  pub rgb1 : Colour
+  pub rgb2 : Colour
+  pub alpha0 : Colour
+  pub alpha1 : Colour
+  pub alpha2 : Colour
 
 abbrev pub black : Colour
 black = record { red = 0; green = 0; blue = 0; alpha = 0 }

@@ -6,9 +6,8 @@ use Rattle.settings.specs.declared.records.Colour.{Colour}
 use Rattle.settings.specs.declared.records.Stage.{Stage}
 use Rattle.combiner.specs.Modes.{combined, scaled}
 use Rattle.combiner.specs.Dot.{dot3Of}
-use Rattle.combiner.specs.Operands.{rgbOperand, alphaOperand}
+use Rattle.combiner.specs.Operands.{Sources, rgbOperand, alphaOperand}
 use Rattle.combiner.specs.declared.dot.Rgb.{Rgb}
-use Rattle.combiner.specs.declared.operands.Sources.{Sources}
 
 -- RGB by its mode, channel by channel, and its scale
 abbrev pub rgbMixed : ℕ → ℕ → Rgb → Rgb → Rgb → ℕ → Rgb

@@ -1,23 +1,24 @@
--- Not of the document: colours as words, red in the low byte, as a colour register holds them; and the table of colours by code, which the code keeps in one array and changes from stage to stage.
+-- Not of the document: colours as words, red in the low byte, as a colour register holds them; and the table of colours by code, which
+-- the code keeps in one array and changes from stage to stage.
 use mathlib.Core.Bool.{Bool, _&&_}
-use mathlib.Core.List.{List, [], _∷_, map}
+use mathlib.Core.List.{List, map}
 use Prim.Native.Nat.{ℕ}
 use lib.Dec.{eqb}
 use lib.ListN.{getD, set}
-use Rattle.numbers.specs.Pick.{pick}
-use Rattle.settings.specs.Ranges.{bits}
-use Rattle.settings.specs.Stages.{sourceIn, operandIn, combinerIn, colourIn, scaleIn}
+use Rattle.settings.specs.Ranges.{bits, inCells}
+use Rattle.settings.specs.Stages.{sourceIn, operandIn, combinerIn, colourIn, scaleIn, stagesIn, bufferFogIn}
 use Rattle.settings.specs.declared.records.Colour.{Colour}
 use Rattle.settings.specs.declared.records.Operand.{Operand}
 use Rattle.settings.specs.declared.records.Stage.{Stage}
 use Rattle.settings.specs.declared.records.Stages.{Stages}
 use Rattle.settings.specs.declared.records.BufferFog.{BufferFog}
 use Rattle.combiner.specs.Modes.{combined, scaled}
-use Rattle.combiner.specs.Operands.{black, sourcesOf, oneMinus, alphaOperand}
+use Rattle.combiner.specs.Dot.{dot3Of}
+use Rattle.combiner.specs.Operands.{Sources, black, sourcesOf, oneMinus, rgbPart, alphaOperand}
 use Rattle.combiner.specs.Stage.{stageOf}
-use Rattle.combiner.specs.Chain.{bufferAfter}
+use Rattle.combiner.specs.Chain.{bufferAfter, combinerOf}
+use Rattle.combiner.specs.declared.Given.{Given}
 use Rattle.combiner.specs.declared.dot.Rgb.{Rgb}
-use Rattle.combiner.specs.declared.operands.Sources.{Sources}
 
 -- WORDS
 
@@ -32,43 +33,55 @@ rgb r g b = record { red = r; green = g; blue = b }
 abbrev pub rgbIn : ℕ → Rgb
 rgbIn x = rgb (bits x 0 7) (bits x 8 15) (bits x 16 23)
 
--- a stage by the words of its registers
-abbrev pub stageFrom : ℕ → ℕ → ℕ → Colour → ℕ → Stage
-stageFrom source operand combiner colour scale =
+-- the dot3 of two words
+abbrev pub dotIn : ℕ → ℕ → ℕ
+dotIn x y = dot3Of (rgbIn x) (rgbIn y)
+
+-- a stage by the words of its registers; its constant stands in the table and isn't read here
+abbrev pub stageFrom : ℕ → ℕ → ℕ → ℕ → Stage
+stageFrom source operand combiner scale =
     record {
       source = sourceIn (bits source);
       operand = operandIn (bits operand);
       combiner = combinerIn (bits combiner);
-      colour = colour;
+      colour = black;
       scale = scaleIn (bits scale);
     }
 
 -- THREE CHANNELS AT ONCE
 
--- the part of a source that an RGB operand code names, before "one minus"; `half` is half the code
-abbrev pub partOf : ℕ → Colour → ℕ → ℕ
-partOf half s own = pick (eqb half 0) own (getD (0 ∷ s .alpha ∷ s .red ∷ 0 ∷ s .green ∷ 0 ∷ s .blue ∷ 0 ∷ []) half 0)
+-- a function of one, two or three channels, for red, green and blue
+abbrev pub each1 : (ℕ → ℕ) → Rgb → Rgb
+each1 f a = rgb (f (a .red)) (f (a .green)) (f (a .blue))
 
+abbrev pub each2 : (ℕ → ℕ → ℕ) → Rgb → Rgb → Rgb
+each2 f a b = rgb (f (a .red) (b .red)) (f (a .green) (b .green)) (f (a .blue) (b .blue))
+
+abbrev pub each3 : (ℕ → ℕ → ℕ → ℕ) → Rgb → Rgb → Rgb → Rgb
+each3 f a b c = rgb (f (a .red) (b .red) (c .red)) (f (a .green) (b .green) (c .green)) (f (a .blue) (b .blue) (c .blue))
+
+-- the part of a source that an RGB operand's code names, before "one minus"
 abbrev pub rgbParts : ℕ → Colour → Rgb
-rgbParts half s = rgb (partOf half s (s .red)) (partOf half s (s .green)) (partOf half s (s .blue))
+rgbParts code s = rgb (rgbPart code s (s .red)) (rgbPart code s (s .green)) (rgbPart code s (s .blue))
 
 abbrev pub rgbOneMinus : ℕ → Rgb → Rgb
-rgbOneMinus code x = rgb (oneMinus code (x .red)) (oneMinus code (x .green)) (oneMinus code (x .blue))
+rgbOneMinus code x = each1 (oneMinus code) x
 
+-- by the mode
 abbrev pub rgbCombined : ℕ → Rgb → Rgb → Rgb → ℕ → Rgb
-rgbCombined mode a b c dot =
-    rgb
-    (combined mode (a .red) (b .red) (c .red) dot)
-    (combined mode (a .green) (b .green) (c .green) dot)
-    (combined mode (a .blue) (b .blue) (c .blue) dot)
+rgbCombined mode a b c dot = each3 (λ x y z. combined mode x y z dot) a b c
+
+abbrev pub rgbScaled : ℕ → Rgb → Rgb
+rgbScaled scale x = each1 (scaled scale) x
 
 -- alpha by its own mode
 abbrev pub ownAlpha : ℕ → Operand → Sources → ℕ → ℕ
 ownAlpha mode o from dot =
-    combined mode (alphaOperand (o .alpha0) (from .alpha0)) (alphaOperand (o .alpha1) (from .alpha1)) (alphaOperand (o .alpha2) (from .alpha2)) dot
-
-abbrev pub rgbScaled : ℕ → Rgb → Rgb
-rgbScaled scale x = rgb (scaled scale (x .red)) (scaled scale (x .green)) (scaled scale (x .blue))
+    combined mode
+    (alphaOperand (o .alpha0) (from .alpha0))
+    (alphaOperand (o .alpha1) (from .alpha1))
+    (alphaOperand (o .alpha2) (from .alpha2))
+    dot
 
 -- a stage that hands on Previous as it is: replace by source Previous, its own channels, scale 1; the state after a reset
 abbrev pub idle : Stage → Bool
@@ -83,6 +96,14 @@ idle s =
 -- the sixteen colours of a table of words
 abbrev pub colours : List ℕ → List Colour
 colours ws = map unpacked ws
+
+-- the six of them that the word of a source register names
+abbrev pub sourcesIn : List ℕ → ℕ → Sources
+sourcesIn ws source = sourcesOf (colours ws) (sourceIn (bits source))
+
+-- alpha by its own mode, from a table of words and the words of the registers
+abbrev pub alphaFrom : List ℕ → ℕ → ℕ → ℕ → ℕ → ℕ
+alphaFrom ws source operand mode dot = ownAlpha mode (operandIn (bits operand)) (sourcesIn ws source) dot
 
 abbrev pub withConstant : Stage → List Colour → List Colour
 withConstant s cs = set cs 14 (s .colour)
@@ -108,3 +129,12 @@ tableAtLast stages b cs =
     let after3 = tableAfter (stages .stage3) (b .update .rgb3) (b .update .alpha3) after2 in
     let after4 = tableAfter (stages .stage4) (b .update .rgb4) (b .update .alpha4) after3 in
     tableAfter (stages .stage5) 0 0 after4
+
+-- BY THE REGISTERS OF THE CELLS
+
+abbrev pub tableBy : List ℕ → List Colour → List Colour
+tableBy cells cs = tableAtLast (stagesIn (inCells cells)) (bufferFogIn (inCells cells)) cs
+
+-- what `combine` answers
+abbrev pub combinerBy : List ℕ → Given → Colour
+combinerBy cells g = combinerOf (stagesIn (inCells cells)) (bufferFogIn (inCells cells)) g

@@ -3,7 +3,7 @@ ghost use mathlib.Core.Path.{_≡_};
 ghost use Prim.Native.Nat.{_≤_};
 ghost use lib.IntN.{natAbs, _*ℤ_};
 ghost use Rattle.combiner.specs.Dot.{centred, atLeastZero, clamped, dot3Of};
-ghost use Rattle.combiner.specs.Words.{rgbIn};
+ghost use Rattle.combiner.specs.Words.{dotIn};
 use crate::modes;
 use crate::words;
 
@@ -46,9 +46,9 @@ fn dot3(a: Rgb, b: Rgb) -> u8
     clamp(term(a.red, b.red) + term(a.green, b.green) + term(a.blue, b.blue))
 }
 
-// Of two words.
+// Of the red, green and blue of two words.
 pub fn dot_words(a: u32, b: u32) -> u8
-    ensures { λ r. ⌜ r ≡ dot3Of (rgbIn a) (rgbIn b) ⌝ }
+    ensures { λ r. ⌜ r ≡ dotIn a b ⌝ }
 {
     dot3(words::rgb_of(a), words::rgb_of(b))
 }

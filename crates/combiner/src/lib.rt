@@ -1,12 +1,15 @@
-// The combiner: six stages, each of which may read what the stages before it gave. The contract of `combine` cites specs/Chain.antt.
+// The combiner: six stages, each of which may read what the stages before it gave. The contract of `combine` cites specs/Chain.antt, by
+// the registers of the cells. Nothing is decoded first: each register is read where it is used. The sixteen colours that a source code
+// can name are kept as words in one array, in which a stage changes three; specs/Words.antt says how words and array stand for the
+// document's colours.
 ghost use mathlib.Core.Path.{_≡_};
 ghost use Prim.Native.Nat.{_<_};
 ghost use lib.ListN.{length, getD};
 ghost use Rattle.settings.specs.Ranges.{inCells};
-ghost use Rattle.settings.specs.Stages.{stageIn, stagesIn, bufferFogIn};
+ghost use Rattle.settings.specs.Stages.{stageIn};
 ghost use Rattle.combiner.specs.Operands.{black, byCode};
-ghost use Rattle.combiner.specs.Chain.{atFirst, bufferAfter, combinerOf};
-ghost use Rattle.combiner.specs.Words.{unpacked, colours, tableAfter, tableAtLast};
+ghost use Rattle.combiner.specs.Chain.{atFirst, bufferAfter};
+ghost use Rattle.combiner.specs.Words.{unpacked, colours, tableAfter, tableBy, combinerBy};
 use settings::records::Colour;
 
 mod dot;
@@ -27,13 +30,7 @@ pub struct Given {
     pub texture3: Colour,
 }
 
-// What a stage sees as Previous and as Previous buffer.
-pub struct Seen {
-    pub previous: Colour,
-    pub buffer: Colour,
-}
-
-// rgb and alpha are the stage's bits of E0.
+// The buffer that the next stage sees; rgb and alpha are this stage's bits of E0.
 fn buffer_after(rgb: u32, alpha: u32, previous: u32, buffer: u32) -> u32
     ensures { λ r. ⌜ unpacked r ≡ bufferAfter rgb alpha (record { previous = unpacked previous; buffer = unpacked buffer }) ⌝ }
 {
@@ -43,10 +40,12 @@ fn buffer_after(rgb: u32, alpha: u32, previous: u32, buffer: u32) -> u32
     )
 }
 
-// The stage whose source register is b: its constant, its result and the next stage's buffer go into the table.
+// The stage whose source register is b, by its bits of E0: its constant, its result and the next stage's buffer go into the table.
 fn step(cells: &[u32], b: usize, rgb: u32, alpha: u32, table: &mut [u32; 16])
     requires { ⌜ (length (now cells) ≡ 768) × (b < 760) ⌝ }
-    ensures { λ _. ⌜ colours (now (table .exit)) ≡ tableAfter (stageIn (inCells (now (cells .entry))) b) rgb alpha (colours (now (table .entry))) ⌝ }
+    ensures { λ _. ⌜
+        colours (now (table .exit)) ≡ tableAfter (stageIn (inCells (now (cells .entry))) b) rgb alpha (colours (now (table .entry)))
+        ⌝ }
 {
     let source = cells[b];
     let operand = cells[b + 1];
@@ -60,12 +59,32 @@ fn step(cells: &[u32], b: usize, rgb: u32, alpha: u32, table: &mut [u32; 16])
     table[15] = result;
 }
 
+// Stage 0, as `step` would. It isn't looked at for being idle: in nearly every state it works.
+fn first_step(cells: &[u32], table: &mut [u32; 16])
+    requires { ⌜ length (now cells) ≡ 768 ⌝ }
+    ensures { λ _. ⌜
+        colours (now (table .exit)) ≡ tableAfter (stageIn (inCells (now (cells .entry))) 0xC0) 0 0 (colours (now (table .entry)))
+        ⌝ }
+{
+    let source = cells[0xC0];
+    let operand = cells[0xC1];
+    let combiner = cells[0xC2];
+    let scale = cells[0xC4];
+    let previous = table[15];
+    let buffer = table[13];
+    table[14] = cells[0xC3];
+    let result = stage::run_stage(table, source, operand, combiner, scale);
+    table[13] = buffer_after(0, 0, previous, buffer);
+    table[15] = result;
+}
+
+// All six, in order; E0 has no bit for stages 0 and 5.
 fn run_stages(cells: &[u32], table: &mut [u32; 16])
     requires { ⌜ length (now cells) ≡ 768 ⌝ }
-    ensures { λ _. ⌜ colours (now (table .exit)) ≡ tableAtLast (stagesIn (inCells (now (cells .entry)))) (bufferFogIn (inCells (now (cells .entry)))) (colours (now (table .entry))) ⌝ }
+    ensures { λ _. ⌜ colours (now (table .exit)) ≡ tableBy (now (cells .entry)) (colours (now (table .entry))) ⌝ }
 {
     let update = cells[0xE0];
-    step(cells, 0xC0, 0, 0, table);
+    first_step(cells, table);
     step(cells, 0xC8, (update >> 8) % 2, (update >> 12) % 2, table);
     step(cells, 0xD0, (update >> 9) % 2, (update >> 13) % 2, table);
     step(cells, 0xD8, (update >> 10) % 2, (update >> 14) % 2, table);
@@ -73,7 +92,7 @@ fn run_stages(cells: &[u32], table: &mut [u32; 16])
     step(cells, 0xF8, 0, 0, table);
 }
 
-// The table before stage 0.
+// The table before stage 0, which sees zero as Previous and the buffer, FD, as Previous buffer.
 fn first_table(g: Given, buffer: u32) -> [u32; 16]
     ensures { λ r. ⌜ colours r ≡ byCode g black (atFirst (unpacked buffer)) ⌝ }
 {
@@ -84,6 +103,8 @@ fn first_table(g: Given, buffer: u32) -> [u32; 16]
     let texture1 = g.texture1;
     let texture2 = g.texture2;
     let texture3 = g.texture3;
+    let constant = 0;
+    let previous = 0;
     [
         words::word_of(primary),
         words::word_of(fragment_primary),
@@ -99,8 +120,8 @@ fn first_table(g: Given, buffer: u32) -> [u32; 16]
         0,
         0,
         buffer,
-        0,
-        0,
+        constant,
+        previous,
     ]
 }
 
@@ -111,10 +132,11 @@ fn previous_in(table: &[u32; 16]) -> Colour
     words::colour_of(table[15])
 }
 
-// The combiner's result for the colours given with a fragment, by the registers of the cells.
+// The combiner's result for the colours given with a fragment, by the registers of the cells. For `fragment`, which tests their length
+// first.
 pub fn combine(cells: &[u32], g: Given) -> Colour
     requires { ⌜ length (now cells) ≡ 768 ⌝ }
-    ensures { λ r. ⌜ r ≡ combinerOf (stagesIn (inCells (now (cells .entry)))) (bufferFogIn (inCells (now (cells .entry)))) g ⌝ }
+    ensures { λ r. ⌜ r ≡ combinerBy (now (cells .entry)) g ⌝ }
 {
     let mut table = first_table(g, cells[0xFD]);
     run_stages(cells, &mut table);

@@ -1,15 +1,17 @@
 // The combine modes and the scale on red, green and blue, in one word. The contracts cite specs/Words.antt.
+// Every mode hands on a word: three bytes that cross the choice by the mode would cost more than the arithmetic.
 ghost use mathlib.Core.Path.{_≡_};
 ghost use Prim.Native.Nat.{_<_};
 ghost use Rattle.combiner.specs.Modes.{modulated, added, addedSigned, interpolated, subtracted, multipliedAdded, addedMultiplied};
-ghost use Rattle.combiner.specs.Dot.{dot3Of};
-ghost use Rattle.combiner.specs.Words.{rgb, rgbIn, rgbCombined, rgbScaled};
+ghost use Rattle.combiner.specs.Operands.{rgbOperand};
+ghost use Rattle.combiner.specs.Words.{unpacked, rgb, rgbIn, dotIn, each2, each3, rgbCombined, rgbScaled};
 use crate::dot;
 use crate::modes;
+use crate::operands;
 use crate::words;
 
 fn modulate_rgb(x: u32, y: u32) -> u32
-    ensures { λ r. ⌜ rgbIn r ≡ rgb (modulated (rgbIn x .red) (rgbIn y .red)) (modulated (rgbIn x .green) (rgbIn y .green)) (modulated (rgbIn x .blue) (rgbIn y .blue)) ⌝ }
+    ensures { λ r. ⌜ rgbIn r ≡ each2 modulated (rgbIn x) (rgbIn y) ⌝ }
 {
     let a = words::rgb_of(x);
     let b = words::rgb_of(y);
@@ -21,7 +23,7 @@ fn modulate_rgb(x: u32, y: u32) -> u32
 }
 
 fn add_rgb(x: u32, y: u32) -> u32
-    ensures { λ r. ⌜ rgbIn r ≡ rgb (added (rgbIn x .red) (rgbIn y .red)) (added (rgbIn x .green) (rgbIn y .green)) (added (rgbIn x .blue) (rgbIn y .blue)) ⌝ }
+    ensures { λ r. ⌜ rgbIn r ≡ each2 added (rgbIn x) (rgbIn y) ⌝ }
 {
     let a = words::rgb_of(x);
     let b = words::rgb_of(y);
@@ -33,7 +35,7 @@ fn add_rgb(x: u32, y: u32) -> u32
 }
 
 fn add_signed_rgb(x: u32, y: u32) -> u32
-    ensures { λ r. ⌜ rgbIn r ≡ rgb (addedSigned (rgbIn x .red) (rgbIn y .red)) (addedSigned (rgbIn x .green) (rgbIn y .green)) (addedSigned (rgbIn x .blue) (rgbIn y .blue)) ⌝ }
+    ensures { λ r. ⌜ rgbIn r ≡ each2 addedSigned (rgbIn x) (rgbIn y) ⌝ }
 {
     let a = words::rgb_of(x);
     let b = words::rgb_of(y);
@@ -45,7 +47,7 @@ fn add_signed_rgb(x: u32, y: u32) -> u32
 }
 
 fn interpolate_rgb(x: u32, y: u32, z: u32) -> u32
-    ensures { λ r. ⌜ rgbIn r ≡ rgb (interpolated (rgbIn x .red) (rgbIn y .red) (rgbIn z .red)) (interpolated (rgbIn x .green) (rgbIn y .green) (rgbIn z .green)) (interpolated (rgbIn x .blue) (rgbIn y .blue) (rgbIn z .blue)) ⌝ }
+    ensures { λ r. ⌜ rgbIn r ≡ each3 interpolated (rgbIn x) (rgbIn y) (rgbIn z) ⌝ }
 {
     let a = words::rgb_of(x);
     let b = words::rgb_of(y);
@@ -58,7 +60,7 @@ fn interpolate_rgb(x: u32, y: u32, z: u32) -> u32
 }
 
 fn subtract_rgb(x: u32, y: u32) -> u32
-    ensures { λ r. ⌜ rgbIn r ≡ rgb (subtracted (rgbIn x .red) (rgbIn y .red)) (subtracted (rgbIn x .green) (rgbIn y .green)) (subtracted (rgbIn x .blue) (rgbIn y .blue)) ⌝ }
+    ensures { λ r. ⌜ rgbIn r ≡ each2 subtracted (rgbIn x) (rgbIn y) ⌝ }
 {
     let a = words::rgb_of(x);
     let b = words::rgb_of(y);
@@ -70,7 +72,7 @@ fn subtract_rgb(x: u32, y: u32) -> u32
 }
 
 fn multiply_add_rgb(x: u32, y: u32, z: u32) -> u32
-    ensures { λ r. ⌜ rgbIn r ≡ rgb (multipliedAdded (rgbIn x .red) (rgbIn y .red) (rgbIn z .red)) (multipliedAdded (rgbIn x .green) (rgbIn y .green) (rgbIn z .green)) (multipliedAdded (rgbIn x .blue) (rgbIn y .blue) (rgbIn z .blue)) ⌝ }
+    ensures { λ r. ⌜ rgbIn r ≡ each3 multipliedAdded (rgbIn x) (rgbIn y) (rgbIn z) ⌝ }
 {
     let a = words::rgb_of(x);
     let b = words::rgb_of(y);
@@ -83,7 +85,7 @@ fn multiply_add_rgb(x: u32, y: u32, z: u32) -> u32
 }
 
 fn add_multiply_rgb(x: u32, y: u32, z: u32) -> u32
-    ensures { λ r. ⌜ rgbIn r ≡ rgb (addedMultiplied (rgbIn x .red) (rgbIn y .red) (rgbIn z .red)) (addedMultiplied (rgbIn x .green) (rgbIn y .green) (rgbIn z .green)) (addedMultiplied (rgbIn x .blue) (rgbIn y .blue) (rgbIn z .blue)) ⌝ }
+    ensures { λ r. ⌜ rgbIn r ≡ each3 addedMultiplied (rgbIn x) (rgbIn y) (rgbIn z) ⌝ }
 {
     let a = words::rgb_of(x);
     let b = words::rgb_of(y);
@@ -96,29 +98,31 @@ fn add_multiply_rgb(x: u32, y: u32, z: u32) -> u32
 }
 
 fn dot_rgb(x: u32, y: u32) -> u32
-    ensures { λ r. ⌜ rgbIn r ≡ rgb (dot3Of (rgbIn x) (rgbIn y)) (dot3Of (rgbIn x) (rgbIn y)) (dot3Of (rgbIn x) (rgbIn y)) ⌝ }
+    ensures { λ r. ⌜ rgbIn r ≡ rgb (dotIn x y) (dotIn x y) (dotIn x y) ⌝ }
 {
     words::grey(dot::dot_words(x, y))
 }
 
-// One choice by the mode for all three channels.
-pub fn mix_rgb(mode: u32, x: u32, y: u32, z: u32) -> u32
-    ensures { λ r. ⌜ rgbIn r ≡ rgbCombined mode (rgbIn x) (rgbIn y) (rgbIn z) (dot3Of (rgbIn x) (rgbIn y)) ⌝ }
+// One choice by the mode for all three channels. x and y are the first two operands; the third, which its code names of a source, and the
+// dot3 are worked out only where a mode asks for them.
+pub fn mix_rgb(mode: u32, x: u32, y: u32, code: u32, source: u32) -> u32
+    ensures { λ r. ⌜ rgbIn r ≡ rgbCombined mode (rgbIn x) (rgbIn y) (rgbOperand code (unpacked source)) (dotIn x y) ⌝ }
 {
     match mode {
         0 => x,
         1 => modulate_rgb(x, y),
         2 => add_rgb(x, y),
         3 => add_signed_rgb(x, y),
-        4 => interpolate_rgb(x, y, z),
+        4 => interpolate_rgb(x, y, operands::rgb_operand(code, source)),
         5 => subtract_rgb(x, y),
         6 => dot_rgb(x, y),
         7 => dot_rgb(x, y),
-        8 => multiply_add_rgb(x, y, z),
-        _ => add_multiply_rgb(x, y, z),
+        8 => multiply_add_rgb(x, y, operands::rgb_operand(code, source)),
+        _ => add_multiply_rgb(x, y, operands::rgb_operand(code, source)),
     }
 }
 
+// Scale 1 is passed over.
 pub fn scale_rgb(scale: u32, x: u32) -> u32
     ensures { λ r. ⌜ (rgbIn r ≡ rgbScaled scale (rgbIn x)) × (r < 0x1000000) ⌝ }
 {

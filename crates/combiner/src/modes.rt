@@ -1,10 +1,12 @@
 // One channel: the combine modes and the scales. The contracts cite specs/Modes.antt.
 ghost use mathlib.Core.Path.{_≡_};
 ghost use Prim.Native.Nat.{_≤_, _*_, _/_};
-ghost use Rattle.combiner.specs.Modes.{toByte, modulated, added, addedSigned, interpolated, subtracted, multipliedAdded, addedMultiplied, combined, factorOf};
-ghost use Rattle.combiner.specs.Dot.{dot3Of};
-ghost use Rattle.combiner.specs.Words.{rgbIn};
+ghost use Rattle.combiner.specs.Modes.{toByte, modulated, added, addedSigned, interpolated, subtracted};
+ghost use Rattle.combiner.specs.Modes.{multipliedAdded, addedMultiplied, combined, factorOf};
+ghost use Rattle.combiner.specs.Operands.{alphaOperand};
+ghost use Rattle.combiner.specs.Words.{unpacked, dotIn};
 use crate::dot;
+use crate::operands;
 
 // The one division by 255. The largest number divided is a dot3 of equal corners, 3 times 255 times 255.
 pub fn over_255(n: u32) -> u32
@@ -69,33 +71,32 @@ pub fn add_multiply(a: u8, b: u8, c: u8) -> u8
     modulate(add(a, b), c)
 }
 
-// One channel of a stage's result, before its scale; x and y are the stage's first two RGB operands, whose dot3 is worked out where the mode asks for it.
-pub fn combine(mode: u32, a: u8, b: u8, c: u8, x: u32, y: u32) -> u8
-    ensures { λ r. ⌜ r ≡ combined mode a b c (dot3Of (rgbIn x) (rgbIn y)) ⌝ }
+// Alpha by its mode, before its scale. a and b are the first two operands; the third, which its code names of a source, and the dot3 of
+// the first two RGB operands, x and y, are worked out only where the mode asks for them.
+pub fn combine(mode: u32, a: u8, b: u8, code: u32, source: u32, x: u32, y: u32) -> u8
+    ensures { λ r. ⌜ r ≡ combined mode a b (alphaOperand code (unpacked source)) (dotIn x y) ⌝ }
 {
     match mode {
         0 => a,
         1 => modulate(a, b),
         2 => add(a, b),
         3 => add_signed(a, b),
-        4 => interpolate(a, b, c),
+        4 => interpolate(a, b, operands::alpha_operand(code, source)),
         5 => subtract(a, b),
         6 => dot::dot_words(x, y),
         7 => dot::dot_words(x, y),
-        8 => multiply_add(a, b, c),
-        _ => add_multiply(a, b, c),
+        8 => multiply_add(a, b, operands::alpha_operand(code, source)),
+        _ => add_multiply(a, b, operands::alpha_operand(code, source)),
     }
 }
 
 pub fn factor(scale: u32) -> u32
     ensures { λ r. ⌜ (r ≡ factorOf scale) × (r ≤ 4) ⌝ }
 {
-    match scale {
-        0 => 1,
-        1 => 2,
-        2 => 4,
-        _ => 1,
+    if scale == 1 {
+        return 2;
     }
+    if scale == 2 { 4 } else { 1 }
 }
 
 pub fn times(x: u8, factor: u32) -> u8

@@ -1,62 +1,30 @@
 // The operands taken from a stage's sources, which are words. The contracts cite specs/Operands.antt and specs/Words.antt.
 ghost use mathlib.Core.Path.{_≡_};
-ghost use Rattle.numbers.specs.Pick.{pick};
-ghost use Rattle.combiner.specs.Operands.{oneMinus, rgbOperand, alphaPart, alphaOperand};
+ghost use Rattle.combiner.specs.Operands.{oneMinus, rgbPart, rgbOperand, alphaPart, alphaOperand};
 ghost use Rattle.combiner.specs.Words.{unpacked, rgbIn, rgbParts, rgbOneMinus};
 use crate::words;
-use settings::records::Colour;
 
-// The colours that a stage's source codes name.
-pub struct Sources {
-    pub rgb0: Colour,
-    pub rgb1: Colour,
-    pub rgb2: Colour,
-    pub alpha0: Colour,
-    pub alpha1: Colour,
-    pub alpha2: Colour,
+// The byte of a source that an RGB operand's code names, by a shift: the number has for each half code from 0 up the bit at which the
+// byte begins, 24 for alpha, 0, 8, 16 for red, green, blue, and 32, past the word, where the code names none.
+fn byte_part(code: u32, x: u32) -> u8
+    ensures { λ r. ⌜ r ≡ rgbPart code (unpacked x) 0 ⌝ }
+{
+    let first = (0x2010200820001820u64 >> (code / 2 % 8 * 8)) % 64;
+    ((x as u64 >> first) % 256) as u8
 }
 
-fn byte_at_0(x: u32) -> u8
-    ensures { λ r. ⌜ r ≡ unpacked x .red ⌝ }
+// An even code and the odd one after it name the same part: the channels' own, or one byte of the source for all three.
+fn rgb_part(code: u32, x: u32) -> u32
+    ensures { λ r. ⌜ rgbIn r ≡ rgbParts code (unpacked x) ⌝ }
 {
-    (x % 256) as u8
-}
-
-fn byte_at_8(x: u32) -> u8
-    ensures { λ r. ⌜ r ≡ unpacked x .green ⌝ }
-{
-    ((x >> 8) % 256) as u8
-}
-
-fn byte_at_16(x: u32) -> u8
-    ensures { λ r. ⌜ r ≡ unpacked x .blue ⌝ }
-{
-    ((x >> 16) % 256) as u8
-}
-
-fn byte_at_24(x: u32) -> u8
-    ensures { λ r. ⌜ r ≡ unpacked x .alpha ⌝ }
-{
-    ((x >> 24) % 256) as u8
-}
-
-// By half the operand's code.
-fn rgb_part(half: u32, x: u32) -> u32
-    ensures { λ r. ⌜ rgbIn r ≡ rgbParts half (unpacked x) ⌝ }
-{
-    match half {
-        0 => x,
-        1 => words::grey(byte_at_24(x)),
-        2 => words::grey(byte_at_0(x)),
-        3 => 0,
-        4 => words::grey(byte_at_8(x)),
-        5 => 0,
-        6 => words::grey(byte_at_16(x)),
-        7 => 0,
-        _ => 0,
+    if code / 2 % 8 == 0 {
+        x
+    } else {
+        words::grey(byte_part(code, x))
     }
 }
 
+// All three at once: no channel borrows from the next.
 fn rgb_one_minus(code: u32, x: u32) -> u32
     ensures { λ r. ⌜ rgbIn r ≡ rgbOneMinus code (rgbIn x) ⌝ }
 {
@@ -66,7 +34,7 @@ fn rgb_one_minus(code: u32, x: u32) -> u32
 pub fn rgb_operand(code: u32, x: u32) -> u32
     ensures { λ r. ⌜ rgbIn r ≡ rgbOperand code (unpacked x) ⌝ }
 {
-    rgb_one_minus(code, rgb_part(code / 2 % 8, x))
+    rgb_one_minus(code, rgb_part(code, x))
 }
 
 // By a shift: alpha is at bit 24 and codes 2, 4, 6 are the bytes from bit 0 up.

@@ -1,59 +1,71 @@
--- What `decode` answers, by the tests that code makes. Assumes nothing.
+-- What `is_decodable`, `refusal_of` and `decode` answer, by the tests that code makes. Assumes nothing.
 use mathlib.Core.Path.{_≡_, refl, ap, sym, _∙_}
-use mathlib.Core.Bool.{Bool, true, false}
+use mathlib.Core.Bool.{Bool, true, false, not, _&&_}
 use Prim.Native.Nat.{ℕ}
 use lib.Dec.{eqb}
 use Rattle.numbers.specs.Pick.{pick}
-use borrow.Author.Tests.{eq-eqb, ne-eqb}
+use Rattle.numbers.proofs.Tests.{and-true}
 use Rattle.registers.specs.State.{State, sized}
-use Rattle.decode.specs.Decoded.{settingsOf, namelessId, refusal, decodedOf, unnamed, checkedOf}
 use Rattle.settings.specs.declared.records.Settings.{Settings}
-use Rattle.words.specs.declared.Refusal.{Refusal}
-use Rattle.decode.specs.declared.Decoded.{Decoded}
+use Rattle.decode.specs.Codes.{checks, anyLacks}
+use Rattle.decode.specs.Decoded.{settingsOf, namelessId, refusal, decodedOf, decodable, lengthRefusal, codeRefusal, refusalOf}
 use Rattle.decode.specs.declared.Decoded.the-variants.{Held, Refused}
-use Rattle.decode.specs.declared.Checked.{Checked}
-use Rattle.decode.specs.declared.Checked.the-variants as checked
+use Rattle.decode.proofs.Lowest.{lowest-none}
 
--- `check`, by the tests that code makes
+-- BY THE LENGTHS
+
 module _ (s : State) where
-  pub length-refused : sized s ≡ false → checkedOf s ≡ unnamed 6 0
-  unfolding checkedOf
+  pub other-lengths : sized s ≡ false → decodable s ≡ false
+  unfolding decodable
+  other-lengths e = rw e
+
+  pub by-codes : sized s ≡ true → not (anyLacks (checks (settingsOf s))) ≡ decodable s
+  unfolding decodable
+  by-codes e = rw e (sym (lowest-none (settingsOf s)))
+
+  pub length-refusal : sized s ≡ false → refusalOf s ≡ lengthRefusal
+  unfolding refusalOf
+  length-refusal e = rw e
+
+  pub code-refusal : sized s ≡ true → refusalOf s ≡ codeRefusal (namelessId s)
+  unfolding refusalOf
+  code-refusal e = rw e
+
+  pub decodable-sized : decodable s ≡ true → sized s ≡ true
+  unfolding decodable
+  decodable-sized e = and-true (sized s) (eqb (namelessId s) 0) e .0
+
+-- `decode`, BY BOTH TESTS
+
+module _ (s : State) where
+  pub length-refused : sized s ≡ false → decodedOf s ≡ refusal 6 0
+  unfolding decodedOf
   length-refused e = rw e
 
-  pub code-refused : (i : ℕ) → sized s ≡ true → i ≡ namelessId s → (i ≡ 0 → ⊥) → checkedOf s ≡ unnamed 13 i
-  unfolding checkedOf
-  code-refused i e n h = rw (e, ← n, ne-eqb i 0 h)
+  pub code-refused : sized s ≡ true → anyLacks (checks (settingsOf s)) ≡ true → decodedOf s ≡ refusal 13 (namelessId s)
+  unfolding decodedOf
+  code-refused e l = rw (e, lowest-none (settingsOf s), l)
 
-  pub all-named : sized s ≡ true → namelessId s ≡ 0 → checkedOf s ≡ checked.Named
-  unfolding checkedOf
-  all-named e n = rw (e, eq-eqb (namelessId s) 0 n)
+  pub all-named : sized s ≡ true → anyLacks (checks (settingsOf s)) ≡ false → decodedOf s ≡ Held (settingsOf s)
+  unfolding decodedOf
+  all-named e l = rw (e, lowest-none (settingsOf s), l)
 
--- `decode`, by what `check` answers
-abbrev decodedBy : Checked → Settings → Decoded
-decodedBy checked.Named x = Held x
-decodedBy (checked.Refused r) x = Refused r
+-- `decode`, BY WHETHER IT IS DECODABLE
 
 by-tests : (a b : Bool) (x : Settings) (i : ℕ)
-    → pick a (pick b (Held x) (refusal 13 i)) (refusal 6 0) ≡ decodedBy (pick a (pick b checked.Named (unnamed 13 i)) (unnamed 6 0)) x
+    → pick a (pick b (Held x) (refusal 13 i)) (refusal 6 0)
+    ≡ pick (a && b) (Held x) (Refused (pick a (codeRefusal i) lengthRefusal))
 by-tests true true x i = refl
 by-tests true false x i = refl
 by-tests false b x i = refl
 
 module _ (s : State) where
-  decoded-by : decodedOf s ≡ decodedBy (checkedOf s) (settingsOf s)
-  unfolding decodedOf checkedOf
+  decoded-by : decodedOf s ≡ pick (decodable s) (Held (settingsOf s)) (Refused (refusalOf s))
+  unfolding decodedOf decodable refusalOf
   decoded-by = by-tests (sized s) (eqb (namelessId s) 0) (settingsOf s) (namelessId s)
 
-  pub refused-alike : (r : Refusal) → checkedOf s ≡ checked.Refused r → decodedOf s ≡ Refused r
-  refused-alike r e = decoded-by ∙ rw e
+  pub decodable-held : decodable s ≡ true → decodedOf s ≡ Held (settingsOf s)
+  decodable-held e = decoded-by ∙ rw e
 
-  pub named-held : checkedOf s ≡ checked.Named → decodedOf s ≡ Held (settingsOf s)
-  named-held e = decoded-by ∙ rw e
-
-sized-by : (a b : Bool) (i : ℕ) → pick a (pick b checked.Named (unnamed 13 i)) (unnamed 6 0) ≡ checked.Named → a ≡ true
-sized-by true b i e = refl
-sized-by false b i e = cc
-
-pub named-sized : (s : State) → checkedOf s ≡ checked.Named → sized s ≡ true
-unfolding checkedOf
-named-sized s e = sized-by (sized s) (eqb (namelessId s) 0) (namelessId s) e
+  pub else-refused : decodable s ≡ false → decodedOf s ≡ Refused (refusalOf s)
+  else-refused e = decoded-by ∙ rw e

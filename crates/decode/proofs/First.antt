@@ -4,8 +4,11 @@ use mathlib.Core.Bool.{Bool, true, false, _||_, false≢true}
 use mathlib.Core.List.{List, [], _∷_, _++_}
 use Prim.Native.Nat.{ℕ}
 use Rattle.numbers.specs.Pick.{pick}
-use Rattle.decode.specs.Codes.{Check, updateLacks, stageChecks, frameChecks, checks, firstOf, lowest, anyOf, anyLacks}
+use Rattle.decode.specs.Codes.{sourceLacks, operandLacks, combinerLacks, scaleLacks, updateLacks}
+use Rattle.decode.specs.Codes.{Check, stageChecks, frameChecks, checks, firstOf, lowest, anyOf, anyLacks}
+use Rattle.settings.specs.declared.records.Stage.{Stage}
 use Rattle.settings.specs.declared.records.Settings.{Settings}
+use Rattle.decode.proofs.Bitwise.{or-true, or-assoc}
 
 pub first-append : (xs ys : List Check) (rest : ℕ) → firstOf (xs ++ ys) rest ≡ firstOf xs (firstOf ys rest)
 unfolding firstOf
@@ -52,6 +55,36 @@ pub any-checks : (s : Settings)
     (anyOf (stageChecks 0xF8 (s .stages .stage5)) (anyOf (frameChecks (s .framebuffer)) false)))))))
 unfolding checks
 any-checks s = simp (any-append, any-one)
+
+-- the tests of two stages, register by register
+swapped : (a b c d : Bool) → ((a || b) || (c || d)) ≡ ((a || c) || (b || d))
+swapped true b c d = refl
+swapped false true c d = sym (or-true c)
+swapped false false c d = refl
+
+by-registers : (a b c d a′ b′ c′ d′ rest : Bool)
+    → ((a || a′) || ((b || b′) || ((c || c′) || ((d || d′) || rest))))
+    ≡ (a || (b || (c || (d || (a′ || (b′ || (c′ || (d′ || rest))))))))
+by-registers a b c d a′ b′ c′ d′ rest =
+    rw (
+      or-assoc d d′ rest,
+      swapped c c′ d (d′ || rest),
+      swapped b b′ (c || d) (c′ || (d′ || rest)),
+      swapped a a′ (b || (c || d)) (b′ || (c′ || (d′ || rest))),
+    )
+    (simp or-assoc)
+
+pub any-two : (i j : ℕ) (s t : Stage) (rest : Bool)
+    → anyOf (stageChecks i s) (anyOf (stageChecks j t) rest)
+    ≡ ((sourceLacks (s .source) || sourceLacks (t .source))
+    || ((operandLacks (s .operand) || operandLacks (t .operand))
+    || ((combinerLacks (s .combiner) || combinerLacks (t .combiner)) || ((scaleLacks (s .scale) || scaleLacks (t .scale)) || rest))))
+unfolding stageChecks anyOf
+any-two i j s t rest =
+    sym
+    (by-registers
+    (sourceLacks (s .source)) (operandLacks (s .operand)) (combinerLacks (s .combiner)) (scaleLacks (s .scale))
+    (sourceLacks (t .source)) (operandLacks (t .operand)) (combinerLacks (t .combiner)) (scaleLacks (t .scale)) rest)
 
 -- where none lacks a name there is no first
 none-or : (a b : Bool) → (a || b) ≡ false → (a ≡ false) × (b ≡ false)

@@ -1,6 +1,6 @@
 -- The id of a refusal 13 holds a code without a name, and no lower id does; a state that is decoded has none. Assumes nothing.
 use mathlib.Core.Path.{_≡_, refl, ap, _∙_}
-use mathlib.Core.Bool.{Bool, true, false, _&&_, false≢true}
+use mathlib.Core.Bool.{Bool, true, false, not, _&&_, _||_, false≢true}
 use mathlib.Core.List.{List, [], _∷_}
 use Prim.Native.Nat.{ℕ, _<_, _≤_}
 use native.Mathlib.Omega.{arith}
@@ -9,10 +9,11 @@ use borrow.Author.Tests.{eq-eqb, ne-eqb, eqb-true, eqb-false}
 use Rattle.numbers.specs.Pick.{pick}
 use Rattle.numbers.proofs.Tests.{both}
 use Rattle.registers.specs.State.{State, sized}
-use Rattle.decode.specs.Codes.{Check, check, stageChecks, frameChecks, checks, firstOf, lowest, lacksAt}
+use Rattle.decode.specs.Codes.{Check, check, stageChecks, frameChecks, checks, firstOf, lowest, lacksAt, anyOf, anyLacks}
 use Rattle.decode.specs.Decoded.{numberOf, valuesOf, settingsOf, nameless, namelessId, refusal, decodedOf}
 use Rattle.settings.specs.declared.records.Settings.{Settings}
 use Rattle.decode.specs.declared.Decoded.the-variants.{Held}
+use Rattle.decode.proofs.First.{none-first}
 
 -- ids rise from above n
 rising : ℕ → List Check → Bool
@@ -111,3 +112,31 @@ unfolding decodedOf
 held-named s x e j =
     let z = by-held (sized s) (eqb (namelessId s) 0) (namelessId s) (settingsOf s) x refl e in
     not-so (nameless s j) (λ h. let p = nameless-least s .below j h .0 in omega arith)
+
+-- THE QUICK TEST: no id is 0, so that the lowest is 0 exactly where none lacks a name
+
+positive : List Check → Bool
+positive [] = true
+positive (c ∷ cs) = ltb 0 (c .id) && positive cs
+
+checks-positive : (s : Settings) → T (positive (checks s))
+unfolding positive checks stageChecks frameChecks
+checks-positive s = tt
+
+first-some : (i n : ℕ) (t u : Bool) → 0 < i → (u ≡ true → n ≡ 0 → ⊥) → (t || u) ≡ true → pick t i n ≡ 0 → ⊥
+first-some i n true u h k e z = omega arith
+first-some i n false u h k e z = k e z
+
+some-first : (cs : List Check) → T (positive cs) → anyLacks cs ≡ true → firstOf cs 0 ≡ 0 → ⊥
+unfolding positive firstOf anyOf
+some-first [] p e z = false≢true e
+some-first (c ∷ cs) p e z =
+    let b = both (ltb 0 (c .id)) (positive cs) p in
+    first-some (c .id) (firstOf cs 0) (c .lacks) (anyOf cs false) (ltb→lt 0 (c .id) (b .0)) (some-first cs (b .1)) e z
+
+none-by : (cs : List Check) → T (positive cs) → (t : Bool) → anyLacks cs ≡ t → eqb (lowest cs) 0 ≡ not t
+none-by cs p true e = ne-eqb (lowest cs) 0 (some-first cs p e)
+none-by cs p false e = eq-eqb (lowest cs) 0 (none-first cs 0 e)
+
+pub lowest-none : (s : Settings) → eqb (lowest (checks s)) 0 ≡ not (anyLacks (checks s))
+lowest-none s = none-by (checks s) (checks-positive s) (anyLacks (checks s)) refl

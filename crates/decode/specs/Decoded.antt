@@ -1,5 +1,5 @@
 -- What `decode` answers: the decoded state, or a refusal, 6 and then 13.
-use mathlib.Core.Bool.{Bool}
+use mathlib.Core.Bool.{Bool, _&&_}
 use mathlib.Core.List.{List, [], _∷_}
 use Prim.Native.Nat.{ℕ}
 use lib.Dec.{eqb}
@@ -10,8 +10,7 @@ use Rattle.settings.specs.Settings.{settingsIn}
 use Rattle.decode.specs.Codes.{checks, lacksAt, lowest}
 use Rattle.settings.specs.Flat.{flat}
 use Rattle.settings.specs.declared.records.Settings.{Settings}
-use Rattle.decode.specs.declared.Checked.{Checked}
-use Rattle.decode.specs.declared.Checked.the-variants as checked
+use Rattle.words.specs.declared.Refusal.{Refusal}
 use Rattle.decode.specs.declared.Decoded.{Decoded}
 use Rattle.decode.specs.declared.Decoded.the-variants.{Held, Refused}
 
@@ -43,9 +42,18 @@ unfoldable pub decodedOf : State → Decoded
 decodedOf s =
     pick (sized s) (pick (eqb (namelessId s) 0) (Held (settingsOf s)) (refusal 13 (namelessId s))) (refusal 6 0)
 
--- what `check` answers: the same refusals, and nothing decoded
-abbrev pub unnamed : ℕ → ℕ → Checked
-unnamed n p = checked.Refused (record { number = n; place = p })
+-- NOT OF THE DOCUMENT: the two cases of `decodedOf` apart
 
-unfoldable pub checkedOf : State → Checked
-checkedOf s = pick (sized s) (pick (eqb (namelessId s) 0) checked.Named (unnamed 13 (namelessId s))) (unnamed 6 0)
+-- it isn't refused
+unfoldable pub decodable : State → Bool
+decodable s = sized s && eqb (namelessId s) 0
+
+-- the refusal where it is
+abbrev pub lengthRefusal : Refusal
+lengthRefusal = record { number = 6; place = 0 }
+
+abbrev pub codeRefusal : ℕ → Refusal
+codeRefusal i = record { number = 13; place = i }
+
+unfoldable pub refusalOf : State → Refusal
+refusalOf s = pick (sized s) (codeRefusal (namelessId s)) lengthRefusal

@@ -1,7 +1,8 @@
-// Codes without a name: a test for each kind of register, ids ascending, and then the lowest id that holds one. The contracts cite specs/Codes.antt.
-// All tests are joined in one word without a branch, and the lowest id is looked for only where that word isn't 0: nearly every state passes them all.
+// Codes without a name: a test for each kind of register, and the lowest id that holds one. The contracts cite specs/Codes.antt. Nearly
+// every state passes all tests, so that they are joined in one word without a branch, and the lowest id is looked for only where it isn't
+// 0.
 ghost use mathlib.Core.Path.{_≡_};
-ghost use mathlib.Core.Bool.{not};
+ghost use mathlib.Core.Bool.{not, _||_};
 ghost use lib.Dec.{eqb};
 ghost use Prim.Native.Nat.{_<_};
 ghost use lib.ListN.{length};
@@ -10,32 +11,39 @@ ghost use Rattle.settings.specs.Ranges.{bits, inCells};
 ghost use Rattle.settings.specs.Stages.{sourceIn, operandIn, combinerIn, scaleIn, stageIn, updateIn};
 ghost use Rattle.settings.specs.Framebuffer.{operationIn, functionIn, formatIn, framebufferIn};
 ghost use Rattle.settings.specs.Settings.{settingsIn};
-ghost use Rattle.decode.specs.Codes.{sourceLacks, operandLacks, combinerLacks, scaleLacks, updateLacks, operationLacks, functionLacks, formatLacks, noDepthFormat, stageChecks, frameChecks, checks, firstOf, lowest, anyOf, anyLacks};
+ghost use Rattle.decode.specs.Codes.{sourceLacks, operandLacks, combinerLacks, scaleLacks, updateLacks};
+ghost use Rattle.decode.specs.Codes.{operationLacks, functionLacks, noDepthFormat, formatLacks};
+ghost use Rattle.decode.specs.Codes.{stageChecks, frameChecks, checks, firstOf, lowest, anyOf, anyLacks};
 
-// All six codes at once: bit 0 of a code's four bits is left where the code is 7..Ch, so that the word is 0 where all have a name. With a, b, c, d a code's bits from bit 0 up, that is where d differs from c AND (a OR b), and d OR (a AND b).
-fn source_bits(x: u32) -> u32
-    ensures { λ r. ⌜ not (eqb r 0) ≡ sourceLacks (sourceIn (bits x)) ⌝ }
+// A REGISTER'S CODES. Those of four bits are tested all at once, and those of two stages in one word of 64 bits: of each code's bits a,
+// b, c, d, from bit 0 up, bit 0 is left where the code lacks a name, so that the word is 0 where all have one.
+
+// Left for 7..Ch: where d differs from c AND (a OR b), and d OR (a AND b).
+fn sources_lack(x: u32, y: u32) -> u64
+    ensures { λ r. ⌜ not (eqb r 0) ≡ (sourceLacks (sourceIn (bits x)) || sourceLacks (sourceIn (bits y))) ⌝ }
 {
-    (((x >> 3) ^ ((x >> 2) & ((x >> 1) | x))) & ((x >> 3) | ((x >> 1) & x))) & 0x1110111
+    let w = x as u64 + y as u64 * 0x100000000;
+    (((w >> 3) ^ ((w >> 2) & ((w >> 1) | w))) & ((w >> 3) | ((w >> 1) & w))) & 0x111011101110111
 }
 
 fn source_lacks(x: u32) -> bool
     ensures { λ r. ⌜ r ≡ sourceLacks (sourceIn (bits x)) ⌝ }
 {
-    source_bits(x) != 0
+    sources_lack(x, 0) != 0
 }
 
-// All three codes at once: b AND (c OR d) is left for 6, 7, Ah, Bh, Eh, Fh.
-fn operand_bits(x: u32) -> u32
-    ensures { λ r. ⌜ not (eqb r 0) ≡ operandLacks (operandIn (bits x)) ⌝ }
+// Left for 6, 7, Ah, Bh, Eh, Fh: b AND (c OR d). Every alpha operand has a name.
+fn operands_lack(x: u32, y: u32) -> u64
+    ensures { λ r. ⌜ not (eqb r 0) ≡ (operandLacks (operandIn (bits x)) || operandLacks (operandIn (bits y))) ⌝ }
 {
-    ((x >> 1) & ((x >> 2) | (x >> 3))) & 0x111
+    let w = x as u64 + y as u64 * 0x100000000;
+    ((w >> 1) & ((w >> 2) | (w >> 3))) & 0x11100000111
 }
 
 fn operand_lacks(x: u32) -> bool
     ensures { λ r. ⌜ r ≡ operandLacks (operandIn (bits x)) ⌝ }
 {
-    operand_bits(x) != 0
+    operands_lack(x, 0) != 0
 }
 
 // An alpha mode 6 or 7 has a name where the RGB mode is 7.
@@ -47,17 +55,18 @@ fn combiner_lacks(x: u32) -> bool
     (9 < rgb) | ((9 < alpha) | (6 <= alpha) & (alpha <= 7) & (rgb != 7))
 }
 
-// Both codes at once: a AND b is left for 3.
-fn scale_bits(x: u32) -> u32
-    ensures { λ r. ⌜ not (eqb r 0) ≡ scaleLacks (scaleIn (bits x)) ⌝ }
+// Left for 3: a AND b.
+fn scales_lack(x: u32, y: u32) -> u64
+    ensures { λ r. ⌜ not (eqb r 0) ≡ (scaleLacks (scaleIn (bits x)) || scaleLacks (scaleIn (bits y))) ⌝ }
 {
-    (x & (x >> 1)) & 0x10001
+    let w = x as u64 + y as u64 * 0x100000000;
+    (w & (w >> 1)) & 0x1000100010001
 }
 
 fn scale_lacks(x: u32) -> bool
     ensures { λ r. ⌜ r ≡ scaleLacks (scaleIn (bits x)) ⌝ }
 {
-    scale_bits(x) != 0
+    scales_lack(x, 0) != 0
 }
 
 fn update_lacks(x: u32) -> bool
@@ -96,6 +105,8 @@ fn format_lacks(x: u32) -> bool
     (size == 1) | (size == 3) | ((format == 1) | (5 <= format) & (format <= 7))
 }
 
+// THE LOWEST ID, from the highest register down.
+
 // The id where its register lacks a name, else the rest.
 fn first_of(lacks: bool, id: usize, rest: usize) -> usize
     ensures { λ r. ⌜ r ≡ pick lacks id rest ⌝ }
@@ -133,8 +144,8 @@ fn frame_first(cells: &[u32]) -> usize
     first_of(operation_lacks(operation), 0x100, second)
 }
 
-// The lowest id of all, from the highest register down; 0 for none.
-fn lowest_id(cells: &[u32]) -> usize
+// The lowest id of all; 0 for none.
+pub fn lowest_id(cells: &[u32]) -> usize
     requires { ⌜ length (now cells) ≡ 768 ⌝ }
     ensures { λ r. ⌜ r ≡ lowest (checks (settingsIn (inCells (now (cells .entry))))) ⌝ }
 {
@@ -149,27 +160,37 @@ fn lowest_id(cells: &[u32]) -> usize
     stage_first(cells, 0xC0, stage1)
 }
 
-// 0 where the test fails.
-fn bits_of(lacks: bool) -> u32
+// THE QUICK TEST
+
+// Not 0 where a name is lacking.
+fn bits_of(lacks: bool) -> u64
     ensures { λ r. ⌜ not (eqb r 0) ≡ lacks ⌝ }
 {
     if lacks { 1 } else { 0 }
 }
 
-// Not 0 where the stage whose source register is b holds a code without a name, or the rest isn't 0.
-fn stage_bits(cells: &[u32], b: usize, rest: u32) -> u32
-    requires { ⌜ (length (now cells) ≡ 768) × (b < 760) ⌝ }
-    ensures { λ r. ⌜ not (eqb r 0) ≡ anyOf (stageChecks b (stageIn (inCells (now (cells .entry))) b)) (not (eqb rest 0)) ⌝ }
+fn modes_lack(x: u32, y: u32) -> u64
+    ensures { λ r. ⌜ not (eqb r 0) ≡ (combinerLacks (combinerIn (bits x)) || combinerLacks (combinerIn (bits y))) ⌝ }
 {
-    let source = cells[b];
-    let operand = cells[b + 1];
-    let combiner = cells[b + 2];
-    let scale = cells[b + 4];
-    source_bits(source)
-        | (operand_bits(operand) | (bits_of(combiner_lacks(combiner)) | (scale_bits(scale) | rest)))
+    bits_of(combiner_lacks(x) | combiner_lacks(y))
 }
 
-// 100, 101, 116 or 117 does, or the rest.
+// Not 0 where one of the two stages whose source registers are a and b holds a code without a name, or the rest isn't 0.
+fn two_stages(cells: &[u32], a: usize, b: usize, rest: u64) -> u64
+    requires { ⌜ (length (now cells) ≡ 768) × (a < 760) × (b < 760) ⌝ }
+    ensures { λ r. ⌜
+        not (eqb r 0) ≡ anyOf (stageChecks a (stageIn (inCells (now (cells .entry))) a))
+        (anyOf (stageChecks b (stageIn (inCells (now (cells .entry))) b)) (not (eqb rest 0)))
+        ⌝ }
+{
+    let sources = sources_lack(cells[a], cells[b]);
+    let operands = operands_lack(cells[a + 1], cells[b + 1]);
+    let modes = modes_lack(cells[a + 2], cells[b + 2]);
+    let scales = scales_lack(cells[a + 4], cells[b + 4]);
+    sources | (operands | (modes | (scales | rest)))
+}
+
+// 100, 101, 116 or 117 holds one, or the rest does.
 fn frame_lacks(cells: &[u32], rest: bool) -> bool
     requires { ⌜ length (now cells) ≡ 768 ⌝ }
     ensures { λ r. ⌜ r ≡ anyOf (frameChecks (framebufferIn (inCells (now (cells .entry))))) rest ⌝ }
@@ -183,29 +204,15 @@ fn frame_lacks(cells: &[u32], rest: bool) -> bool
             | (depth_format_lacks(depth_format) | (format_lacks(format) | rest)))
 }
 
-fn any_lacks(cells: &[u32]) -> bool
+// Some register holds one.
+pub fn any_lacks(cells: &[u32]) -> bool
     requires { ⌜ length (now cells) ≡ 768 ⌝ }
     ensures { λ r. ⌜ r ≡ anyLacks (checks (settingsIn (inCells (now (cells .entry))))) ⌝ }
 {
     let update = cells[0xE0];
     let frame = bits_of(frame_lacks(cells, false));
-    let stage5 = stage_bits(cells, 0xF8, frame);
-    let stage4 = stage_bits(cells, 0xF0, stage5);
-    let fog = bits_of(update_lacks(update)) | stage4;
-    let stage3 = stage_bits(cells, 0xD8, fog);
-    let stage2 = stage_bits(cells, 0xD0, stage3);
-    let stage1 = stage_bits(cells, 0xC8, stage2);
-    stage_bits(cells, 0xC0, stage1) != 0
-}
-
-// The lowest id that holds a code without a name; 0 for none.
-pub fn nameless_id(cells: &[u32]) -> usize
-    requires { ⌜ length (now cells) ≡ 768 ⌝ }
-    ensures { λ r. ⌜ r ≡ lowest (checks (settingsIn (inCells (now (cells .entry))))) ⌝ }
-{
-    if any_lacks(cells) {
-        lowest_id(cells)
-    } else {
-        0
-    }
+    let last = two_stages(cells, 0xF0, 0xF8, frame);
+    let fog = bits_of(update_lacks(update)) | last;
+    let middle = two_stages(cells, 0xD0, 0xD8, fog);
+    two_stages(cells, 0xC0, 0xC8, middle) != 0
 }

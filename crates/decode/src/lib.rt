@@ -1,7 +1,11 @@
-// The decoded state of the 66 held registers: their settings, or a refusal. The contract of `decode` cites specs/Decoded.antt.
+// The decoded state of the 66 held registers: their settings, or a refusal. The contracts cite specs/Decoded.antt.
 ghost use mathlib.Core.Path.{_≡_};
 ghost use Rattle.registers.specs.State.{st};
-ghost use Rattle.decode.specs.Decoded.{decodedOf, checkedOf};
+ghost use lib.ListN.{length};
+ghost use Rattle.settings.specs.Ranges.{inCells};
+ghost use Rattle.settings.specs.Settings.{settingsIn};
+ghost use Rattle.decode.specs.Codes.{checks, lowest};
+ghost use Rattle.decode.specs.Decoded.{decodedOf, decodable, lengthRefusal, codeRefusal, refusalOf};
 use settings::records::Settings;
 use words::Refusal;
 
@@ -13,38 +17,55 @@ pub enum Decoded {
     Refused(Refusal),
 }
 
-// Every code has a name, or the refusal.
-pub enum Checked {
-    Named,
-    Refused(Refusal),
-}
-
-// The refusals of `decode` alone, for a caller that reads the registers it uses: 6 at place 0, then 13 at the lowest id that holds a code without a name.
-pub fn check(cells: &[u32], fog: &[u32], light: &[u32]) -> Checked
-    ensures { λ r. ⌜ r ≡ checkedOf (st (now (cells .entry)) (now (fog .entry)) (now (light .entry))) ⌝ }
+// The buffers have a state's lengths, and every code has a name. For a caller that reads from the cells the registers that it uses.
+pub fn is_decodable(cells: &[u32], fog: &[u32], light: &[u32]) -> bool
+    ensures { λ r. ⌜ r ≡ decodable (st (now (cells .entry)) (now (fog .entry)) (now (light .entry))) ⌝ }
 {
     if !registers::is_sized(cells, fog, light) {
-        return Checked::Refused(Refusal {
-            number: words::BUFFER_LENGTH,
-            place: 0,
-        });
+        return false;
     }
-    let id = codes::nameless_id(cells);
-    if id != 0 {
-        return Checked::Refused(Refusal {
-            number: words::CODE_WITHOUT_NAME,
-            place: id,
-        });
-    }
-    Checked::Named
+    !codes::any_lacks(cells)
 }
 
-// The decoded state of the three buffers; or refused as by `check`.
+fn length_refusal() -> Refusal
+    ensures { λ r. ⌜ r ≡ lengthRefusal ⌝ }
+{
+    Refusal {
+        number: words::BUFFER_LENGTH,
+        place: 0,
+    }
+}
+
+fn code_refusal(cells: &[u32]) -> Refusal
+    requires { ⌜ length (now cells) ≡ 768 ⌝ }
+    ensures { λ r. ⌜ r ≡ codeRefusal (lowest (checks (settingsIn (inCells (now (cells .entry)))))) ⌝ }
+{
+    Refusal {
+        number: words::CODE_WITHOUT_NAME,
+        place: codes::lowest_id(cells),
+    }
+}
+
+// The refusal of a state that isn't decodable: 6 at place 0, else 13 at the lowest id that holds a code without a name. A call of its
+// own, so that a state that is decodable doesn't pay for the search.
+pub fn refusal_of(cells: &[u32], fog: &[u32], light: &[u32]) -> Refusal
+    ensures { λ r. ⌜ r ≡ refusalOf (st (now (cells .entry)) (now (fog .entry)) (now (light .entry))) ⌝ }
+{
+    if !registers::is_sized(cells, fog, light) {
+        return length_refusal();
+    }
+    code_refusal(cells)
+}
+
+// The decoded state of the three buffers; or refused with 6 at place 0, or 13 at the lowest id that holds a code without a name.
 pub fn decode(cells: &[u32], fog: &[u32], light: &[u32]) -> Decoded
     ensures { λ r. ⌜ r ≡ decodedOf (st (now (cells .entry)) (now (fog .entry)) (now (light .entry))) ⌝ }
 {
-    match check(cells, fog, light) {
-        Checked::Refused(refusal) => Decoded::Refused(refusal),
-        Checked::Named => Decoded::Held(settings::read_settings(cells)),
+    if !registers::is_sized(cells, fog, light) {
+        return Decoded::Refused(length_refusal());
     }
+    if codes::any_lacks(cells) {
+        return Decoded::Refused(code_refusal(cells));
+    }
+    Decoded::Held(settings::read_settings(cells))
 }

@@ -1,4 +1,5 @@
-// One fragment: the combiner's result, the tests, and what is stored. The contracts cite specs/Drawn.antt.
+// One fragment: the combiner's result, the tests, and what is stored. The contracts cite specs/Drawn.antt. No settings are read for it:
+// once every code has a name, each function below takes from the cells the registers that it uses.
 ghost use mathlib.Core.Path.{_≡_};
 ghost use lib.ListN.{length};
 ghost use Rattle.registers.specs.State.{st};
@@ -7,7 +8,6 @@ ghost use Rattle.settings.specs.Framebuffer.{operationIn, formatIn};
 ghost use Rattle.settings.specs.Settings.{settingsIn};
 ghost use Rattle.fragment.specs.Drawn.{outcomeOf, operationUnbuilt, formatUnbuilt, unbuiltId, largest, drawnWith, drawnOf};
 use combiner::Given;
-use decode::Checked;
 use stores::Stored;
 use stores::Verdict;
 use words::Refusal;
@@ -22,6 +22,7 @@ pub enum Drawn {
     Refused(Refusal),
 }
 
+// The combiner's result, judged and stored.
 fn find_outcome(cells: &[u32], g: Given, incoming: u32, stored: Stored) -> Outcome
     requires { ⌜ length (now cells) ≡ 768 ⌝ }
     ensures { λ r. ⌜ r ≡ outcomeOf (settingsIn (inCells (now (cells .entry)))) g incoming stored ⌝ }
@@ -78,6 +79,7 @@ fn largest_depth(format: u32) -> u32
     if format % 4 == 0 { 65535 } else { 16777215 }
 }
 
+// Of cells whose length is a state's and whose codes all have a name.
 fn draw_with(cells: &[u32], g: Given, incoming: u32, stored: Stored) -> Drawn
     requires { ⌜ length (now cells) ≡ 768 ⌝ }
     ensures { λ r. ⌜ r ≡ drawnWith (settingsIn (inCells (now (cells .entry)))) g incoming stored ⌝ }
@@ -105,7 +107,8 @@ fn draw_with(cells: &[u32], g: Given, incoming: u32, stored: Stored) -> Drawn
     Drawn::Done(find_outcome(cells, g, incoming, stored))
 }
 
-// What becomes of a fragment: the verdict, and the colour, stencil and depth that are then stored; or refused with 6 at 0, 13 or 14 at the lowest id, or 12 at 0 for the incoming depth, 1 for the stored.
+// What becomes of a fragment: the verdict, and the colour, stencil and depth that are then stored; or refused with 6 at 0, 13 or 14 at
+// the lowest id, or 12 at 0 for the incoming depth, 1 for the stored.
 pub fn draw(
     cells: &[u32],
     fog: &[u32],
@@ -116,8 +119,9 @@ pub fn draw(
 ) -> Drawn
     ensures { λ r. ⌜ r ≡ drawnOf (st (now (cells .entry)) (now (fog .entry)) (now (light .entry))) given incoming stored ⌝ }
 {
-    match decode::check(cells, fog, light) {
-        Checked::Refused(refusal) => Drawn::Refused(refusal),
-        Checked::Named => draw_with(cells, given, incoming, stored),
+    if decode::is_decodable(cells, fog, light) {
+        draw_with(cells, given, incoming, stored)
+    } else {
+        Drawn::Refused(decode::refusal_of(cells, fog, light))
     }
 }

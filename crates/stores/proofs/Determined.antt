@@ -19,4 +19,5 @@ judge-settled κs a =
 
 pub colour-after-settled : (κs : Lfts 1) (a : Dens κs colour-after-kinds.ps) → Settles (λ e. tt {0}) (colour-after.Post κs a)
 colour-after-settled κs a =
-    settled _ _ (λ r. r) (λ r r′ e. e) (colourAfter (framebufferIn (inCells (now (a .0)))) (a .1 .0) (a .1 .1 .0) (a .1 .1 .1 .0)) tt (λ r e p. (p, refl))
+    settled _ _ (λ r. r) (λ r r′ e. e)
+    (colourAfter (framebufferIn (inCells (now (a .0)))) (a .1 .0) (a .1 .1 .0) (a .1 .1 .1 .0)) tt (λ r e p. (p, refl))

@@ -11,6 +11,6 @@ abbrev pub compared : ℕ → ℕ → ℕ → Bool
 compared code a b =
     getD (false ∷ true ∷ eqb a b ∷ not (eqb a b) ∷ ltb a b ∷ leb a b ∷ ltb b a ∷ leb b a ∷ []) (code % 8) false
 
--- not of the document: 0 less, 1 equal, 2 greater
+-- not of the document: how a stands to b, 0 less, 1 equal, 2 greater
 abbrev pub orderOf : ℕ → ℕ → ℕ
 orderOf a b = pick (ltb a b) 0 (pick (eqb a b) 1 2)

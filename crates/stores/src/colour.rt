@@ -80,19 +80,25 @@ fn colour_under(writing: u32, x: u32, new: Colour, old: Colour) -> Colour
     }
 }
 
+// The colour that a verdict stores, by the registers of the cells. For `fragment`, which has tested their length.
 pub fn colour_after(cells: &[u32], v: Verdict, result: Colour, stored: Colour) -> Colour
     requires { ⌜ length (now cells) ≡ 768 ⌝ }
     ensures { λ r. ⌜ r ≡ colourAfter (framebufferIn (inCells (now (cells .entry)))) v result stored ⌝ }
 {
     let op = cells[0x102];
-    let m = cells[0x107];
+    let channels = cells[0x107];
     let writing = cells[0x113];
     match v {
         Verdict::AlphaFails => stored,
         Verdict::StencilFails => stored,
         Verdict::DepthFails => stored,
         Verdict::Passes => {
-            colour_under(writing, m, logic_colour(op % 16, result, stored), stored)
+            colour_under(
+                writing,
+                channels,
+                logic_colour(op % 16, result, stored),
+                stored,
+            )
         }
     }
 }

@@ -1,4 +1,4 @@
-// The verdict of the three tests on one fragment, and what it stores. The contracts cite specs/Stores.antt.
+// The verdict of the three tests on one fragment, and what it stores. The contracts cite specs/Stores.antt, by the registers of the cells.
 ghost use mathlib.Core.Path.{_≡_};
 ghost use lib.ListN.{length};
 ghost use Rattle.settings.specs.Ranges.{inCells};
@@ -50,7 +50,8 @@ fn depth_after(cells: &[u32], v: Verdict, incoming: u32, stored: u32) -> u32
     }
 }
 
-// By the registers of the cells, from the result's alpha, the incoming depth, and the stored stencil and depth; the colour goes by the verdict, `colour::colour_after`.
+// By the registers of the cells, from the result's alpha, the incoming depth, and the stored stencil and depth; the colour goes by the
+// verdict, `colour::colour_after`. For `fragment`, which has tested the cells' length.
 pub fn judge(cells: &[u32], alpha: u8, incoming: u32, stencil: u8, depth: u32) -> Judged
     requires { ⌜ length (now cells) ≡ 768 ⌝ }
     ensures { λ r. ⌜ r ≡ judgedOf (framebufferIn (inCells (now (cells .entry)))) alpha incoming stencil depth ⌝ }

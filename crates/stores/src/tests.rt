@@ -18,7 +18,8 @@ fn order(a: u32, b: u32) -> u32
     if a == b { 1 } else { 2 }
 }
 
-// Codes 0-7: never, always, equal, unequal, less, at most, greater, at least. The number has four bits for each code: the answer for each order.
+// Codes 0-7: never, always, equal, unequal, less, at most, greater, at least. The number has four bits for each code, from code 0 up: the
+// answer where a is less, equal, greater.
 fn compare(code: u32, a: u32, b: u32) -> bool
     ensures { λ r. ⌜ r ≡ compared code a b ⌝ }
 {

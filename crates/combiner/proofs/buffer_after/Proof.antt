@@ -1,6 +1,5 @@
 -- As the calls ensure. Assumes nothing.
 use mathlib.Core.Path.{_∙_}
-use Rattle.combiner.specs.Words.{unpacked}
 use Rattle.combiner.proofs.Mixed.{picked-buffer}
 use borrow.Author.Needs.{needs}
 use Rattle.combiner.proofs.buffer_after.Statement.{statement}

@@ -19,7 +19,12 @@ previous-in-requires c κs = search needs
 returns : tie.Need-returns
 returns c =
     let a = c .before .before .before .before .before .before .before .args in
-    rw (c .previous-in .ensures, c .before .before .run-stages .ensures, c .before .before .before .before .first-table .ensures) (table-word (a .cells .now) (a .g))
+    rw (
+      c .previous-in .ensures,
+      c .before .before .run-stages .ensures,
+      c .before .before .before .before .first-table .ensures,
+    )
+    (table-word (a .cells .now) (a .g))
 
 pub combine-spec : {M : Type 1} → statement M
 combine-spec =

@@ -1,35 +1,64 @@
--- By what `check` answers. Assumes nothing.
-use Rattle.decode.proofs.Cases.{refused-alike, named-held, named-sized}
-use Rattle.registers.proofs.Sizes.{lengths}
-use Rattle.registers.specs.State.{st}
+-- Each way out is one case of `decodedOf`. Assumes nothing.
 use mathlib.Core.Path.{ap, sym, _∙_}
-use Rattle.decode.specs.declared.Decoded.the-variants.{Held}
+use borrow.Author.Tests.{not-true, not-false}
+use Rattle.registers.specs.State.{st}
+use Rattle.registers.proofs.Sizes.{lengths}
+use Rattle.decode.specs.declared.Decoded.the-variants.{Held, Refused}
+use Rattle.decode.proofs.Cases.{length-refused, code-refused, all-named}
 use borrow.Author.Needs.{needs}
 use Rattle.decode.proofs.decode.Statement.{statement}
 use Rattle.decode.proofs.decode.Tie as tie
 
-check-requires : tie.Need-check-requires
-check-requires c κs = search needs
+is-sized-requires : tie.Need-is-sized-requires
+is-sized-requires c κs = search needs
 
-enum-known-refusal : tie.Need-enum-known-refusal
-enum-known-refusal c = search needs
+length-refusal-requires : tie.Need-length-refusal-requires
+length-refusal-requires c κs = search needs
 
-enum-told : tie.Need-enum-told
-enum-told c = search needs
+returns : tie.Need-returns
+returns c =
+    let e = sym (c .before .before .is-sized .ensures) ∙ not-true _ (c .before .if1 .taken) in
+    ap Refused (c .length-refusal .ensures) ∙ sym (length-refused _ e)
+
+any-lacks-requires : tie.Need-any-lacks-requires
+any-lacks-requires c κs =
+    let a = c .before .before .before .before .before .args in
+    let e = sym (c .before .is-sized .ensures) ∙ not-false _ (c .if1 .left) in
+    lengths (st (a .cells .now) (a .fog .now) (a .light .now)) e .0
+
+code-refusal-requires : tie.Need-code-refusal-requires
+code-refusal-requires c κs =
+    let a = c .before .before .before .before .before .before .before .args in
+    let e = sym (c .before .before .before .is-sized .ensures) ∙ not-false _ (c .before .before .if1 .left) in
+    lengths (st (a .cells .now) (a .fog .now) (a .light .now)) e .0
+
+returns-2 : tie.Need-returns-2
+returns-2 c =
+    let e = sym (c .before .before .before .before .is-sized .ensures) ∙ not-false _ (c .before .before .before .if1 .left) in
+    let l = sym (c .before .before .any-lacks .ensures) ∙ c .before .if2 .taken in
+    ap Refused (c .code-refusal .ensures) ∙ sym (code-refused _ e l)
 
 read-settings-requires : tie.Need-read-settings-requires
 read-settings-requires c κs =
-    let a = c .before .before .before .before .before .before .args in
-    let s = st (a .cells .now) (a .fog .now) (a .light .now) in
-    lengths s (named-sized s (sym (c .before .before .check .ensures) ∙ c .enum-told .given .1)) .0
+    let a = c .before .before .before .before .before .before .before .args in
+    let e = sym (c .before .before .before .is-sized .ensures) ∙ not-false _ (c .before .before .if1 .left) in
+    lengths (st (a .cells .now) (a .fog .now) (a .light .now)) e .0
 
-returns : tie.Need-returns
-returns c = sym (refused-alike _ _ (sym (c .before .before .before .check .ensures) ∙ c .before .refusal .given .1))
-
-returns-2 : tie.Need-returns-2
-returns-2 c = sym (named-held _ (sym (c .before .before .before .check .ensures) ∙ c .before .enum-told .given .1) ∙ ap Held (sym (c .read-settings .ensures)))
+returns-3 : tie.Need-returns-3
+returns-3 c =
+    let e = sym (c .before .before .before .before .is-sized .ensures) ∙ not-false _ (c .before .before .before .if1 .left) in
+    let l = sym (c .before .before .any-lacks .ensures) ∙ c .before .if2 .left in
+    ap Held (c .read-settings .ensures) ∙ sym (all-named _ e l)
 
 pub decode-spec : {M : Type 1} → statement M
 decode-spec =
     tie.close
-    (tie.spec check-requires enum-known-refusal enum-told read-settings-requires returns returns-2)
+    (tie.spec
+    is-sized-requires
+    length-refusal-requires
+    returns
+    any-lacks-requires
+    code-refusal-requires
+    returns-2
+    read-settings-requires
+    returns-3)

@@ -20,18 +20,27 @@ largest-depth-requires c κs = search needs
 
 returns-2 : tie.Need-returns-2
 unfolding settingsIn
-returns-2 c = incoming-refused _ _ _ _ (sym (c .before .before .before .before .unbuilt-id .ensures) ∙ c .before .before .before .if1 .left) _ (c .before .largest-depth .ensures) (c .if2 .taken)
+returns-2 c =
+    let b = c .before .before .before in
+    incoming-refused _ _ _ _ (sym (b .before .unbuilt-id .ensures) ∙ b .if1 .left) _ (c .before .largest-depth .ensures) (c .if2 .taken)
 
 returns-3 : tie.Need-returns-3
 unfolding settingsIn
-returns-3 c = stored-refused _ _ _ _ (sym (c .before .before .before .before .before .before .unbuilt-id .ensures) ∙ c .before .before .before .before .before .if1 .left) _ (c .before .before .before .largest-depth .ensures) (c .before .before .if2 .left) (c .if3 .taken)
+returns-3 c =
+    let b = c .before .before .before .before .before in
+    stored-refused _ _ _ _ (sym (b .before .unbuilt-id .ensures) ∙ b .if1 .left) _
+    (c .before .before .before .largest-depth .ensures) (c .before .before .if2 .left) (c .if3 .taken)
 
 find-outcome-requires : tie.Need-find-outcome-requires
 find-outcome-requires c κs = search needs
 
 returns-4 : tie.Need-returns-4
 unfolding settingsIn
-returns-4 c = done _ _ _ _ (sym (c .before .before .before .before .before .before .before .unbuilt-id .ensures) ∙ c .before .before .before .before .before .before .if1 .left) _ (c .before .before .before .before .largest-depth .ensures) _ (c .before .before .before .if2 .left) (c .before .if3 .left) (c .find-outcome .ensures)
+returns-4 c =
+    let b = c .before .before .before .before .before .before in
+    done _ _ _ _ (sym (b .before .unbuilt-id .ensures) ∙ b .if1 .left) _
+    (c .before .before .before .before .largest-depth .ensures) _ (c .before .before .before .if2 .left) (c .before .if3 .left)
+    (c .find-outcome .ensures)
 
 pub draw-with-spec : {M : Type 1} → statement M
 draw-with-spec =

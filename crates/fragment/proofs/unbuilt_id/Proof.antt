@@ -1,7 +1,7 @@
 -- Test by test. Assumes nothing.
 use Rattle.fragment.specs.Drawn.{unbuiltId}
 use Rattle.settings.specs.Settings.{settingsIn}
-use borrow.Author.Tests.{eq-eqb, ne-eqb}
+use borrow.Author.Tests.{ne-eqb}
 use borrow.Author.Needs.{needs}
 use Rattle.fragment.proofs.unbuilt_id.Statement.{statement}
 use Rattle.fragment.proofs.unbuilt_id.Tie as tie
@@ -31,11 +31,25 @@ format-unbuilt-requires c κs = search needs
 
 returns-3 : tie.Need-returns-3
 unfolding unbuiltId settingsIn
-returns-3 c = rw (c .before .before .before .before .if1 .left, ← c .before .before .before .operation-unbuilt .ensures, c .before .before .if2 .left, ← c .before .format-unbuilt .ensures, c .if3 .taken)
+returns-3 c =
+    rw (
+      c .before .before .before .before .if1 .left,
+      ← c .before .before .before .operation-unbuilt .ensures,
+      c .before .before .if2 .left,
+      ← c .before .format-unbuilt .ensures,
+      c .if3 .taken,
+    )
 
 returns-4 : tie.Need-returns-4
 unfolding unbuiltId settingsIn
-returns-4 c = rw (c .before .before .before .before .if1 .left, ← c .before .before .before .operation-unbuilt .ensures, c .before .before .if2 .left, ← c .before .format-unbuilt .ensures, c .if3 .left)
+returns-4 c =
+    rw (
+      c .before .before .before .before .if1 .left,
+      ← c .before .before .before .operation-unbuilt .ensures,
+      c .before .before .if2 .left,
+      ← c .before .format-unbuilt .ensures,
+      c .if3 .left,
+    )
 
 pub unbuilt-id-spec : {M : Type 1} → statement M
 unbuilt-id-spec =

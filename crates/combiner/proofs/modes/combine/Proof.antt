@@ -1,6 +1,7 @@
 -- Arm by arm, as the calls ensure. Assumes nothing.
 use Rattle.combiner.proofs.Codes.{beyond}
 use Rattle.combiner.specs.Modes.{combined}
+use mathlib.Core.Path.{_∙_}
 use lib.ListN.{List·getD-eq-default}
 use Prim.Native.Nat.{_≤_}
 use borrow.Author.Needs.{needs}
@@ -16,6 +17,9 @@ add-requires c κs = search needs
 add-signed-requires : tie.Need-add-signed-requires
 add-signed-requires c κs = search needs
 
+alpha-operand-requires : tie.Need-alpha-operand-requires
+alpha-operand-requires c κs = search needs
+
 interpolate-requires : tie.Need-interpolate-requires
 interpolate-requires c κs = search needs
 
@@ -28,8 +32,14 @@ dot-words-requires c κs = search needs
 dot-words-requires-2 : tie.Need-dot-words-requires-2
 dot-words-requires-2 c κs = search needs
 
+alpha-operand-requires-2 : tie.Need-alpha-operand-requires-2
+alpha-operand-requires-2 c κs = search needs
+
 multiply-add-requires : tie.Need-multiply-add-requires
 multiply-add-requires c κs = search needs
+
+alpha-operand-requires-3 : tie.Need-alpha-operand-requires-3
+alpha-operand-requires-3 c κs = search needs
 
 add-multiply-requires : tie.Need-add-multiply-requires
 add-multiply-requires c κs = search needs
@@ -52,7 +62,7 @@ returns-4 c = rw (c .before .match .keys4) (c .add-signed .ensures)
 
 returns-5 : tie.Need-returns-5
 unfolding combined
-returns-5 c = rw (c .before .match .keys5) (c .interpolate .ensures)
+returns-5 c = rw (c .before .before .match .keys5) (c .interpolate .ensures ∙ rw (c .before .alpha-operand .ensures))
 
 returns-6 : tie.Need-returns-6
 unfolding combined
@@ -68,13 +78,13 @@ returns-8 c = rw (c .before .match .keys8) (c .dot-words2 .ensures)
 
 returns-9 : tie.Need-returns-9
 unfolding combined
-returns-9 c = rw (c .before .match .keys9) (c .multiply-add .ensures)
+returns-9 c = rw (c .before .before .match .keys9) (c .multiply-add .ensures ∙ rw (c .before .alpha-operand2 .ensures))
 
 returns-10 : tie.Need-returns-10
 unfolding combined
 returns-10 c =
-    let h : 9 ≤ c .before .before .args .mode = beyond 9 _ (c .before .match .rest) in
-    rw List·getD-eq-default (c .add-multiply .ensures)
+    let h : 9 ≤ c .before .before .before .args .mode = beyond 9 _ (c .before .before .match .rest) in
+    rw List·getD-eq-default (c .add-multiply .ensures ∙ rw (c .before .alpha-operand3 .ensures))
 
 pub combine-spec : {M : Type 1} → statement M
 combine-spec =
@@ -83,11 +93,14 @@ combine-spec =
     modulate-requires
     add-requires
     add-signed-requires
+    alpha-operand-requires
     interpolate-requires
     subtract-requires
     dot-words-requires
     dot-words-requires-2
+    alpha-operand-requires-2
     multiply-add-requires
+    alpha-operand-requires-3
     add-multiply-requires
     returns
     returns-2

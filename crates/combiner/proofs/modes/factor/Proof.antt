@@ -1,9 +1,6 @@
--- The last arm is past the named codes. Assumes nothing.
-use Rattle.combiner.proofs.Codes.{beyond}
-use lib.ListN.{List·getD-eq-default}
+-- Scale by scale. Assumes nothing.
 use native.Mathlib.Omega.{arith}
-use mathlib.Core.Path.{refl}
-use Prim.Native.Nat.{_≤_}
+use Rattle.combiner.proofs.Codes.{scale-1}
 use borrow.Author.Needs.{needs}
 use Rattle.combiner.proofs.modes.factor.Statement.{statement}
 use Rattle.combiner.proofs.modes.factor.Tie as tie
@@ -15,12 +12,7 @@ returns-2 : tie.Need-returns-2
 returns-2 c = search needs
 
 returns-3 : tie.Need-returns-3
-returns-3 c = search needs
-
-returns-4 : tie.Need-returns-4
-returns-4 c =
-    let h : 3 ≤ c .before .args .scale = beyond 3 _ (c .match .rest) in
-    rw List·getD-eq-default (refl, omega arith)
+returns-3 c = (scale-1 (c .before .before .args .scale) (c .before .if1 .left) (c .if2 .left), omega arith)
 
 pub factor-spec : {M : Type 1} → statement M
-factor-spec = tie.close (tie.spec returns returns-2 returns-3 returns-4)
+factor-spec = tie.close (tie.spec returns returns-2 returns-3)

@@ -1,7 +1,6 @@
 -- As the calls ensure. Assumes nothing.
 use Rattle.combiner.proofs.Mixed.{own-at}
-use Rattle.combiner.specs.Dot.{dot3Of}
-use Rattle.combiner.specs.Words.{rgbIn}
+use Rattle.combiner.specs.Words.{dotIn}
 use borrow.Author.Needs.{needs}
 use Rattle.combiner.proofs.stage.own_alpha.Statement.{statement}
 use Rattle.combiner.proofs.stage.own_alpha.Tie as tie
@@ -39,22 +38,14 @@ alpha-operand-requires c κs = search needs
 alpha-operand-requires-2 : tie.Need-alpha-operand-requires-2
 alpha-operand-requires-2 c κs = search needs
 
-alpha-operand-requires-3 : tie.Need-alpha-operand-requires-3
-alpha-operand-requires-3 c κs = search needs
-
 combine-requires : tie.Need-combine-requires
 combine-requires c κs = search needs
 
 returns : tie.Need-returns
 returns c =
-    let a = c .before .before .before .before .before .before .before .args in
-    rw (
-      c .combine .ensures,
-      c .before .alpha-operand3 .ensures,
-      c .before .before .alpha-operand2 .ensures,
-      c .before .before .before .alpha-operand .ensures,
-    )
-    (own-at (a .table .now) (a .source) (a .operand) (a .mode) (dot3Of (rgbIn (a .x)) (rgbIn (a .y))))
+    let a = c .before .before .before .before .before .before .args in
+    rw (c .combine .ensures, c .before .alpha-operand2 .ensures, c .before .before .alpha-operand .ensures)
+    (own-at (a .table .now) (a .source) (a .operand) (a .mode) (dotIn (a .x) (a .y)))
 
 pub own-alpha-spec : {M : Type 1} → statement M
 own-alpha-spec =
@@ -71,6 +62,5 @@ own-alpha-spec =
     element-copy-out-alpha2
     alpha-operand-requires
     alpha-operand-requires-2
-    alpha-operand-requires-3
     combine-requires
     returns)

@@ -1,7 +1,6 @@
 -- An idle stage hands on Previous. Assumes nothing.
 use Rattle.combiner.proofs.Idle.{idle-word}
 use mathlib.Core.Path.{sym, _∙_}
-use Rattle.combiner.specs.Operands.{black}
 use Rattle.combiner.specs.Words.{stageFrom}
 use borrow.Author.Needs.{needs}
 use Rattle.combiner.proofs.stage.result.Statement.{statement}
@@ -19,7 +18,7 @@ run-stage-requires c κs = search needs
 returns : tie.Need-returns
 returns c =
     let a = c .before .before .before .args in
-    idle-word (stageFrom (a .source) (a .operand) (a .combiner) black (a .scale)) (a .table .now)
+    idle-word (stageFrom (a .source) (a .operand) (a .combiner) (a .scale)) (a .table .now)
     (sym (c .before .before .is-idle .ensures) ∙ c .before .if1 .taken)
 
 returns-2 : tie.Need-returns-2

@@ -1,9 +1,7 @@
 -- As the calls ensure. Assumes nothing.
-use Rattle.combiner.proofs.Parts.{source-at}
-use Rattle.combiner.proofs.Mixed.{stage-parts}
-use Rattle.combiner.specs.Operands.{rgbOperand}
-use mathlib.Core.Path.{ap, sym, _∙_}
+use mathlib.Core.Path.{refl, _∙_}
 use Prim.Native.Nat.{_/_, _%_, _^_}
+use Rattle.combiner.proofs.Mixed.{operand-at, stage-parts}
 use borrow.Author.Needs.{needs}
 use Rattle.combiner.proofs.stage.run_stage.Statement.{statement}
 use Rattle.combiner.proofs.stage.run_stage.Tie as tie
@@ -41,9 +39,6 @@ rgb-operand-requires c κs = search needs
 rgb-operand-requires-2 : tie.Need-rgb-operand-requires-2
 rgb-operand-requires-2 c κs = search needs
 
-rgb-operand-requires-3 : tie.Need-rgb-operand-requires-3
-rgb-operand-requires-3 c κs = search needs
-
 mix-rgb-requires : tie.Need-mix-rgb-requires
 mix-rgb-requires c κs = search needs
 
@@ -55,12 +50,13 @@ finish-requires c κs = search needs
 
 returns : tie.Need-returns
 returns c =
-    let a = c .before .before .before .before .before .before .before .before .before .args in
+    let a = c .before .before .before .before .before .before .before .before .args in
+    let ws = a .table .now in
     c .finish .ensures ∙
     stage-parts _ _ _ _ _ _ _
-    (c .before .before .before .before .before .rgb-operand .ensures ∙ ap (rgbOperand (a .operand % 16)) (sym (source-at (a .table .now) (a .source))))
-    (c .before .before .before .before .rgb-operand2 .ensures ∙ ap (rgbOperand (a .operand / 2 ^ 4 % 16)) (sym (source-at (a .table .now) (a .source / 2 ^ 4))))
-    (c .before .before .before .rgb-operand3 .ensures ∙ ap (rgbOperand (a .operand / 2 ^ 8 % 16)) (sym (source-at (a .table .now) (a .source / 2 ^ 8))))
+    (operand-at ws (a .source) (a .operand % 16) _ (c .before .before .before .before .rgb-operand .ensures))
+    (operand-at ws (a .source / 2 ^ 4) (a .operand / 2 ^ 4 % 16) _ (c .before .before .before .rgb-operand2 .ensures))
+    (operand-at ws (a .source / 2 ^ 8) (a .operand / 2 ^ 8 % 16) _ refl)
     (c .before .before .mix-rgb .ensures)
     (c .before .mix-alpha .ensures)
 
@@ -79,7 +75,6 @@ run-stage-spec =
     element-copy-out-rgb2
     rgb-operand-requires
     rgb-operand-requires-2
-    rgb-operand-requires-3
     mix-rgb-requires
     mix-alpha-requires
     finish-requires

@@ -1,6 +1,6 @@
 -- Group by group, as the calls ensure. Assumes nothing.
-use Rattle.decode.proofs.Nibbles.{or-any}
 use Rattle.decode.proofs.First.{any-checks}
+use Rattle.decode.proofs.Bitwise.{or-any}
 use Rattle.settings.specs.Settings.{settingsIn}
 use borrow.Author.Needs.{needs}
 use Rattle.decode.proofs.codes.any_lacks.Statement.{statement}
@@ -15,11 +15,8 @@ frame-lacks-requires c κs = search needs
 bits-of-requires : tie.Need-bits-of-requires
 bits-of-requires c κs = search needs
 
-stage-bits-requires : tie.Need-stage-bits-requires
-stage-bits-requires c κs = search needs
-
-stage-bits-requires-2 : tie.Need-stage-bits-requires-2
-stage-bits-requires-2 c κs = search needs
+two-stages-requires : tie.Need-two-stages-requires
+two-stages-requires c κs = search needs
 
 update-lacks-requires : tie.Need-update-lacks-requires
 update-lacks-requires c κs = search needs
@@ -27,34 +24,25 @@ update-lacks-requires c κs = search needs
 bits-of-requires-2 : tie.Need-bits-of-requires-2
 bits-of-requires-2 c κs = search needs
 
-stage-bits-requires-3 : tie.Need-stage-bits-requires-3
-stage-bits-requires-3 c κs = search needs
+two-stages-requires-2 : tie.Need-two-stages-requires-2
+two-stages-requires-2 c κs = search needs
 
-stage-bits-requires-4 : tie.Need-stage-bits-requires-4
-stage-bits-requires-4 c κs = search needs
-
-stage-bits-requires-5 : tie.Need-stage-bits-requires-5
-stage-bits-requires-5 c κs = search needs
-
-stage-bits-requires-6 : tie.Need-stage-bits-requires-6
-stage-bits-requires-6 c κs = search needs
+two-stages-requires-3 : tie.Need-two-stages-requires-3
+two-stages-requires-3 c κs = search needs
 
 returns : tie.Need-returns
 unfolding settingsIn
 returns c =
     rw (
       any-checks,
-      c .stage-bits6 .ensures,
-      c .before .stage-bits5 .ensures,
-      c .before .before .stage-bits4 .ensures,
-      c .before .before .before .stage-bits3 .ensures,
-      or-any (c .before .before .before .before .bits-of2 .result) (c .before .before .before .before .before .before .stage-bits2 .result),
-      c .before .before .before .before .bits-of2 .ensures,
-      c .before .before .before .before .before .update-lacks .ensures,
-      c .before .before .before .before .before .before .stage-bits2 .ensures,
-      c .before .before .before .before .before .before .before .stage-bits .ensures,
-      c .before .before .before .before .before .before .before .before .bits-of .ensures,
-      c .before .before .before .before .before .before .before .before .before .frame-lacks .ensures,
+      c .two-stages3 .ensures,
+      c .before .two-stages2 .ensures,
+      or-any (c .before .before .bits-of2 .result) (c .before .before .before .before .two-stages .result),
+      c .before .before .bits-of2 .ensures,
+      c .before .before .before .update-lacks .ensures,
+      c .before .before .before .before .two-stages .ensures,
+      c .before .before .before .before .before .bits-of .ensures,
+      c .before .before .before .before .before .before .frame-lacks .ensures,
     )
 
 pub any-lacks-spec : {M : Type 1} → statement M
@@ -64,12 +52,9 @@ any-lacks-spec =
     shared-slice-read-update
     frame-lacks-requires
     bits-of-requires
-    stage-bits-requires
-    stage-bits-requires-2
+    two-stages-requires
     update-lacks-requires
     bits-of-requires-2
-    stage-bits-requires-3
-    stage-bits-requires-4
-    stage-bits-requires-5
-    stage-bits-requires-6
+    two-stages-requires-2
+    two-stages-requires-3
     returns)

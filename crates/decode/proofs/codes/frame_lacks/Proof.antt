@@ -31,7 +31,12 @@ format-lacks-requires c κs = search needs
 returns : tie.Need-returns
 unfolding frameChecks anyOf
 returns c =
-    rw (c .format-lacks .ensures, c .before .depth-format-lacks .ensures, c .before .before .function-lacks .ensures, c .before .before .before .operation-lacks .ensures)
+    rw (
+      c .format-lacks .ensures,
+      c .before .depth-format-lacks .ensures,
+      c .before .before .function-lacks .ensures,
+      c .before .before .before .operation-lacks .ensures,
+    )
 
 pub frame-lacks-spec : {M : Type 1} → statement M
 frame-lacks-spec =

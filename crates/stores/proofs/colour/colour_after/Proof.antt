@@ -7,8 +7,8 @@ use Rattle.stores.proofs.colour.colour_after.Tie as tie
 shared-slice-read-op : tie.Need-shared-slice-read-op
 shared-slice-read-op c = search needs
 
-shared-slice-read-m : tie.Need-shared-slice-read-m
-shared-slice-read-m c = search needs
+shared-slice-read-channels : tie.Need-shared-slice-read-channels
+shared-slice-read-channels c = search needs
 
 shared-slice-read-writing : tie.Need-shared-slice-read-writing
 shared-slice-read-writing c = search needs
@@ -52,7 +52,7 @@ colour-after-spec =
     tie.close
     (tie.spec
     shared-slice-read-op
-    shared-slice-read-m
+    shared-slice-read-channels
     shared-slice-read-writing
     enum-told
     enum-told-2

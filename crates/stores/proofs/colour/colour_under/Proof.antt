@@ -16,7 +16,13 @@ keep-or-requires-4 : tie.Need-keep-or-requires-4
 keep-or-requires-4 c κs = search needs
 
 returns : tie.Need-returns
-returns c = rw (c .keep-or4 .ensures, c .before .keep-or3 .ensures, c .before .before .keep-or2 .ensures, c .before .before .before .keep-or .ensures)
+returns c =
+    rw (
+      c .keep-or4 .ensures,
+      c .before .keep-or3 .ensures,
+      c .before .before .keep-or2 .ensures,
+      c .before .before .before .keep-or .ensures,
+    )
 
 pub colour-under-spec : {M : Type 1} → statement M
 colour-under-spec =

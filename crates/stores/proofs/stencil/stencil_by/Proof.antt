@@ -28,7 +28,13 @@ put-under-requires : tie.Need-put-under-requires
 put-under-requires c κs = search needs
 
 returns : tie.Need-returns
-returns c = rw (← c .before .before .before .stencil-active .ensures, c .before .before .if1 .taken, c .put-under .ensures, c .before .operate .ensures)
+returns c =
+    rw (
+      ← c .before .before .before .stencil-active .ensures,
+      c .before .before .if1 .taken,
+      c .put-under .ensures,
+      c .before .operate .ensures,
+    )
 
 returns-2 : tie.Need-returns-2
 returns-2 c = rw (← c .before .stencil-active .ensures, c .if1 .left)

@@ -30,7 +30,13 @@ in-order-requires c κs = search needs
 
 returns : tie.Need-returns
 unfolding verdictOf
-returns c = rw (c .in-order .ensures, c .before .depth-passes .ensures, c .before .before .stencil-passes .ensures, c .before .before .before .alpha-passes .ensures)
+returns c =
+    rw (
+      c .in-order .ensures,
+      c .before .depth-passes .ensures,
+      c .before .before .stencil-passes .ensures,
+      c .before .before .before .alpha-passes .ensures,
+    )
 
 pub find-verdict-spec : {M : Type 1} → statement M
 find-verdict-spec =
