@@ -1,7 +1,6 @@
 // A run of writes packed into the shortest list: the writes are checked, their commands planned from the run's end (crate planning), and laid out
 // from its start (crate laying). The contracts cite specs/Given.antt and specs/Packing.antt; the packed list itself is defined in crate runs.
 ghost use mathlib.Core.Path.{_≡_};
-ghost use mathlib.Core.Bool.{false};
 ghost use mathlib.Core.List.{List};
 ghost use Prim.Native.Nat.{ℕ, _≤_, _<_};
 ghost use lib.ListN.{length};
@@ -26,18 +25,29 @@ pub enum Checked {
     Refused(Refusal),
 }
 
-// Whether any write is refused. All are looked at, without a branch that depends on one of them, so that several go at once.
-fn any_wrong(ids: &[u32], masks: &[u32]) -> bool
-    requires { ⌜ length (now ids) ≡ length (now masks) ⌝ }
-    ensures { λ r. ⌜ ((vs : List ℕ) → length (now (ids .entry)) ≡ length vs → r ≡ false → firstWrong 0 (writes (now (ids .entry)) (now (masks .entry)) vs) ≡ answered 0) ⌝ }
+// 1 for a write that is refused, else 0.
+fn counted(id: u32, mask: u32) -> u32
+    ensures { λ r. ⌜ (r ≤ 1) × (r ≡ 0 → wrong id mask ≡ 0) ⌝ }
 {
-    let mut wrong = false;
+    let why = wrong_with(id, mask);
+    if why == 0 {
+        return 0;
+    }
+    1
+}
+
+// How many writes are refused. All are looked at, without a branch that depends on one of them, so that several go at once.
+fn count_wrong(ids: &[u32], masks: &[u32]) -> u32
+    requires { ⌜ (length (now ids) ≡ length (now masks)) × (length (now ids) ≤ 4096) ⌝ }
+    ensures { λ r. ⌜ ((vs : List ℕ) → length (now (ids .entry)) ≡ length vs → r ≡ 0 → firstWrong 0 (writes (now (ids .entry)) (now (masks .entry)) vs) ≡ answered 0) ⌝ }
+{
+    let mut count = 0;
     let mut i = 0;
     while i < ids.len() {
-        wrong = wrong | (wrong_with(ids[i], masks[i]) != 0);
+        count += counted(ids[i], masks[i]);
         i += 1;
     }
-    wrong
+    count
 }
 
 // What is wrong with the writes: 7, 8, or the first write that is refused, with 9, 3, 4 or 5 and its index.
@@ -57,7 +67,7 @@ pub fn check(ids: &[u32], masks: &[u32], values: &[u32]) -> Checked
             place: 0,
         });
     }
-    if !any_wrong(ids, masks) {
+    if count_wrong(ids, masks) == 0 {
         return Checked::Fine;
     }
     let mut i = 0;

@@ -26,17 +26,17 @@ returns-2 : tie.Need-returns-2 Inv-loop μ-loop
 returns-2 c =
     sym (check-many _ _ _ (not-false _ (c .before .if1 .left)) (c .if2 .taken))
 
-any-wrong-requires : tie.Need-any-wrong-requires Inv-loop μ-loop
-any-wrong-requires c κs =
+count-wrong-requires : tie.Need-count-wrong-requires Inv-loop μ-loop
+count-wrong-requires c κs =
     let a = c .before .before .before .before .before .args in
-    level-lengths (a .ids .now) (a .masks .now) (a .values .now) (not-false _ (c .before .if1 .left)) .0
+    (level-lengths (a .ids .now) (a .masks .now) (a .values .now) (not-false _ (c .before .if1 .left)) .0, c .if2 .left)
 
 returns-3 : tie.Need-returns-3 Inv-loop μ-loop
 returns-3 c =
     let a = c .before .before .before .before .before .before .before .args in
     let t = not-false _ (c .before .before .before .if1 .left) in
     let l = level-lengths (a .ids .now) (a .masks .now) (a .values .now) t in
-    sym (check-writes _ _ _ t (c .before .before .if2 .left) ∙ c .before .any-wrong .ensures (a .values .now) (l .1) (not-true _ (c .if3 .taken)))
+    sym (check-writes _ _ _ t (c .before .before .if2 .left) ∙ c .before .count-wrong .ensures (a .values .now) (l .1) (c .if3 .taken))
 
 loop-holds : tie.Need-loop-holds Inv-loop μ-loop
 loop-holds c =
@@ -102,7 +102,7 @@ check-spec =
     μ-loop
     returns
     returns-2
-    any-wrong-requires
+    count-wrong-requires
     returns-3
     loop-holds
     mul-wrong-with
