@@ -122,6 +122,11 @@ pub fn pack(ids: &[u32], masks: &[u32], values: &[u32], space: &mut [u32]) -> Pa
         return Packed::Refused(why);
     }
     // Room to plan in is zeroed when it is made, so a short run is given little.
+    if ids.len() <= 16 {
+        let mut least = [0u16; 17];
+        let mut extra = [0u8; 16];
+        return fill(ids, masks, values, &mut least, &mut extra, space);
+    }
     if ids.len() <= 128 {
         let mut least = [0u16; 129];
         let mut extra = [0u8; 128];

@@ -8,13 +8,12 @@ use native.Mathlib.Omega.{arith}
 use lib.Dec.{eqb}
 use lib.ListN.{length, getD, drop, length-set, length-drop}
 use borrow.Author.Needs.{needs}
-use Rattle.numbers.specs.Pick.{pick}
 use Rattle.words.specs.Writes.{Write}
-use Rattle.runs.specs.Span.{chain, span}
+use Rattle.runs.specs.Span.{chain}
 use Rattle.runs.specs.Packed.{writes}
 use Rattle.runs.proofs.Chain.{chain-fits}
 use Rattle.runs.proofs.Writes.{writes-length}
-use Rattle.planning.proofs.Plans.{chain-linked, chain-on, chain-apart, step-two, run-some, run-longer, Run, least-small, ends-more, Kept, kept-none, kept-more, run-span, run-within, run-longest, Right, choice-right}
+use Rattle.planning.proofs.Plans.{chain-linked, chain-on, chain-apart, step-two, run-some, run-longer, Run, least-small, ends-more, Kept, kept-none, kept-more, run-span, run-longest, Right, choice-right}
 use Rattle.planning.proofs.plan_run.Statement.{statement}
 use Rattle.planning.proofs.plan_run.Tie as tie
 
