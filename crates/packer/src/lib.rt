@@ -1,6 +1,7 @@
 // A run of writes packed into the shortest list: the writes are checked, their commands planned from the run's end (crate planning), and laid out
 // from its start (crate laying). The contracts cite specs/Given.antt and specs/Packing.antt; the packed list itself is defined in crate runs.
 ghost use mathlib.Core.Path.{_≡_};
+ghost use mathlib.Core.Bool.{true};
 ghost use mathlib.Core.List.{List};
 ghost use Prim.Native.Nat.{ℕ, _≤_, _<_};
 ghost use lib.ListN.{length};
@@ -50,6 +51,17 @@ fn count_wrong(ids: &[u32], masks: &[u32]) -> u32
     count
 }
 
+// Whether it is seen at once that no write is refused; a short run is searched as fast as it is counted.
+fn all_right(ids: &[u32], masks: &[u32]) -> bool
+    requires { ⌜ (length (now ids) ≡ length (now masks)) × (length (now ids) ≤ 4096) ⌝ }
+    ensures { λ r. ⌜ ((vs : List ℕ) → length (now (ids .entry)) ≡ length vs → r ≡ true → firstWrong 0 (writes (now (ids .entry)) (now (masks .entry)) vs) ≡ answered 0) ⌝ }
+{
+    if ids.len() < 16 {
+        return false;
+    }
+    count_wrong(ids, masks) == 0
+}
+
 // What is wrong with the writes: 7, 8, or the first write that is refused, with 9, 3, 4 or 5 and its index.
 pub fn check(ids: &[u32], masks: &[u32], values: &[u32]) -> Checked
     ensures { λ r. ⌜ found r ≡ checkAnswer (now (ids .entry)) (now (masks .entry)) (now (values .entry)) ⌝ }
@@ -67,7 +79,7 @@ pub fn check(ids: &[u32], masks: &[u32], values: &[u32]) -> Checked
             place: 0,
         });
     }
-    if count_wrong(ids, masks) == 0 {
+    if all_right(ids, masks) {
         return Checked::Fine;
     }
     let mut i = 0;
@@ -122,11 +134,6 @@ pub fn pack(ids: &[u32], masks: &[u32], values: &[u32], space: &mut [u32]) -> Pa
         return Packed::Refused(why);
     }
     // Room to plan in is zeroed when it is made, so a short run is given little.
-    if ids.len() <= 16 {
-        let mut least = [0u16; 17];
-        let mut extra = [0u8; 16];
-        return fill(ids, masks, values, &mut least, &mut extra, space);
-    }
     if ids.len() <= 128 {
         let mut least = [0u16; 129];
         let mut extra = [0u8; 128];

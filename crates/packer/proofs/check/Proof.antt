@@ -26,8 +26,8 @@ returns-2 : tie.Need-returns-2 Inv-loop μ-loop
 returns-2 c =
     sym (check-many _ _ _ (not-false _ (c .before .if1 .left)) (c .if2 .taken))
 
-count-wrong-requires : tie.Need-count-wrong-requires Inv-loop μ-loop
-count-wrong-requires c κs =
+all-right-requires : tie.Need-all-right-requires Inv-loop μ-loop
+all-right-requires c κs =
     let a = c .before .before .before .before .before .args in
     (level-lengths (a .ids .now) (a .masks .now) (a .values .now) (not-false _ (c .before .if1 .left)) .0, c .if2 .left)
 
@@ -36,7 +36,7 @@ returns-3 c =
     let a = c .before .before .before .before .before .before .before .args in
     let t = not-false _ (c .before .before .before .if1 .left) in
     let l = level-lengths (a .ids .now) (a .masks .now) (a .values .now) t in
-    sym (check-writes _ _ _ t (c .before .before .if2 .left) ∙ c .before .count-wrong .ensures (a .values .now) (l .1) (c .if3 .taken))
+    sym (check-writes _ _ _ t (c .before .before .if2 .left) ∙ c .before .all-right .ensures (a .values .now) (l .1) (c .if3 .taken))
 
 loop-holds : tie.Need-loop-holds Inv-loop μ-loop
 loop-holds c =
@@ -102,7 +102,7 @@ check-spec =
     μ-loop
     returns
     returns-2
-    count-wrong-requires
+    all-right-requires
     returns-3
     loop-holds
     mul-wrong-with

@@ -1,4 +1,4 @@
--- A refusal of the writes stands; else the writes can be packed, and `fill` answers, with as much room to plan in as the run asks for. Assumes nothing.
+-- A refusal of the writes stands; else the writes can be packed, and `fill` answers, with little room to plan in or with much. Assumes nothing.
 use mathlib.Core.Path.{_≡_, sym, ap, _∙_}
 use native.Mathlib.Omega.{arith}
 use borrow.Author.Needs.{needs}
@@ -59,31 +59,14 @@ slice-aggregate-fill-4 c = search needs
 
 fill-requires-2 : tie.Need-fill-requires-2
 fill-requires-2 c κs =
-    let g = given (c .before .before .before .before .before) in (g, omega arith, omega arith)
+    let g = given (c .before .before .before .before) in (g, omega (arith, g .few), omega (arith, g .few))
 
 same-length-2 : tie.Need-same-length-2
 same-length-2 c = search needs
 
 returns-3 : tie.Need-returns-3
 returns-3 c =
-    let o = c .before .before .before .before .fill2 .ensures in pack-room _ _ _ _ 0 _ _ (fine (c .before .before .before .before .before .before .before .before .before .before)) (o .0) (o .1)
-
-slice-aggregate-fill-5 : tie.Need-slice-aggregate-fill-5
-slice-aggregate-fill-5 c = search needs
-
-slice-aggregate-fill-6 : tie.Need-slice-aggregate-fill-6
-slice-aggregate-fill-6 c = search needs
-
-fill-requires-3 : tie.Need-fill-requires-3
-fill-requires-3 c κs =
-    let g = given (c .before .before .before .before .before) in (g, omega (arith, g .few), omega (arith, g .few))
-
-same-length-3 : tie.Need-same-length-3
-same-length-3 c = search needs
-
-returns-4 : tie.Need-returns-4
-returns-4 c =
-    let o = c .before .before .before .before .fill3 .ensures in pack-room _ _ _ _ 0 _ _ (fine (c .before .before .before .before .before .before .before .before .before .before)) (o .0) (o .1)
+    let o = c .before .before .before .before .fill2 .ensures in pack-room _ _ _ _ 0 _ _ (fine (c .before .before .before .before .before .before .before .before .before)) (o .0) (o .1)
 
 pub pack-spec : {M : Type 1} → statement M
 pack-spec =
@@ -102,9 +85,4 @@ pack-spec =
     slice-aggregate-fill-4
     fill-requires-2
     same-length-2
-    returns-3
-    slice-aggregate-fill-5
-    slice-aggregate-fill-6
-    fill-requires-3
-    same-length-3
-    returns-4)
+    returns-3)
