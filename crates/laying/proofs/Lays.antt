@@ -2,7 +2,7 @@
 use mathlib.Core.Path.{_≡_, refl, sym, ap, _∙_}
 use mathlib.Core.Bool.{Bool, true, false}
 use mathlib.Core.List.{List, _∷_, _++_, append-assoc}
-use Prim.Native.Nat.{ℕ, suc, _+_, _-_, _%_, _≤_, _<_}
+use Prim.Native.Nat.{ℕ, zero, suc, _+_, _-_, _%_, _≤_, _<_}
 use native.Mathlib.Decide.{decLt}
 use native.Mathlib.Omega.{arith}
 use lib.Dec.{eqb}
@@ -21,7 +21,7 @@ use Rattle.runs.proofs.Packed.{packed-none, packed-more, first-command}
 use Rattle.runs.proofs.RoundTrip.{plain-drop}
 use Rattle.runs.proofs.Shortest.{plain}
 use Rattle.runs.proofs.Writes.{writes-length, writes-at, values-from}
-use Rattle.laying.specs.Laying.{stepAt}
+use Rattle.laying.specs.Laying.{stepAt, afterShort}
 
 -- a copy of more words over a copy of fewer
 pub copy-more : (old s : List ℕ) (at j n : ℕ) → at + n ≤ length old → j ≤ length s → j ≤ n → paste (paste old at s j) at s n ≡ paste old at s n
@@ -98,6 +98,25 @@ module _ (is ms vs : List ℕ) (G : Given is ms vs) (i k : ℕ) (F : OneCommand 
       let one = next-word old C at 0 at 1 (getD vs i 0) old (omega arith) (omega arith) (omega arith) (omega (arith, F .long)) (paste-zero old at C) word-first in
       next-word old C at 1 (at + 1) 2 h (set old at (getD vs i 0)) (omega arith) (omega arith) (omega (arith, F .low)) (omega (arith, F .long)) one
       (e ∙ rw step-is word-header)
+
+  -- A SHORT ONE, from its first two words
+  pub short-words : (old start : List ℕ) (at : ℕ) → k < 4 → at + words k ≤ length old → start ≡ paste old at (command k (drop i ws)) 2
+      → afterShort vs i k start at ≡ paste old at (command k (drop i ws)) (words k)
+  short-words old start at q r e = go k refl
+    where
+      go : (n : ℕ) → k ≡ n → afterShort vs i n start at ≡ paste old at (command k (drop i ws)) (words n)
+      go zero z = absurd (omega (arith, F .low))
+      go (suc zero) z = e
+      go (suc (suc zero)) z =
+          next-word old (command k (drop i ws)) at 3 (at + 3) 4 0 _ (omega arith) (omega arith) (omega arith) (omega (arith, F .long))
+          (next-word old (command k (drop i ws)) at 2 (at + 2) 3 (getD vs (i + 1) 0) start (omega arith) (omega arith) (omega arith) (omega (arith, F .long)) e (word-extra 1 (omega arith) (omega arith)))
+          (let p : k + 1 ≡ 3 = omega arith in rw p at (word-pad (omega arith)))
+      go (suc (suc (suc zero))) z =
+          let d : i + 3 - 1 ≡ i + 2 = omega arith in
+          next-word old (command k (drop i ws)) at 3 (at + 3) 4 _ _ (omega arith) (omega arith) (omega arith) (omega (arith, F .long))
+          (next-word old (command k (drop i ws)) at 2 (at + 2) 3 (getD vs (i + 1) 0) start (omega arith) (omega arith) (omega arith) (omega (arith, F .long)) e (word-extra 1 (omega arith) (omega arith)))
+          (rw d (word-extra 2 (omega arith) (omega arith)))
+      go (suc (suc (suc (suc n)))) z = absurd (omega arith)
 
 -- ONE COMMAND AFTER ANOTHER
 

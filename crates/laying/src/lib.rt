@@ -3,12 +3,14 @@
 ghost use mathlib.Core.Path.{_≡_};
 ghost use mathlib.Core.List.{_++_};
 ghost use Prim.Native.Nat.{_+_, _≤_, _<_};
+ghost use lib.Dec.{eqb};
 ghost use lib.ListN.{length, drop};
 ghost use lib.Seq.{paste};
+ghost use Rattle.numbers.specs.Pick.{pick};
 ghost use Rattle.cuts.specs.Cuts.{words};
 ghost use Rattle.runs.specs.Packed.{writes, Given, header, command, OneCommand, packed};
 ghost use Rattle.planning.specs.Plan.{Sizes};
-ghost use Rattle.laying.specs.Laying.{stepAt};
+ghost use Rattle.laying.specs.Laying.{stepAt, afterShort};
 
 fn wide(x: u8) -> usize
     ensures { λ r. ⌜ (r ≡ x) × (r < 256) ⌝ }
@@ -38,6 +40,28 @@ fn step_at(ids: &[u32], i: usize, k: usize) -> u32
     1
 }
 
+// The word after the second parameter, in a command of two or three writes: the third parameter, or the padding word.
+fn third(k: usize, last: u32) -> u32
+    ensures { λ r. ⌜ r ≡ pick (eqb k 3) last 0 ⌝ }
+{
+    if k == 3 {
+        return last;
+    }
+    0
+}
+
+// Writes what follows the first two words of a command of fewer than four writes: most are so short, and a loop would end where chance decides.
+fn put_short(values: &[u32], i: usize, k: usize, space: &mut [u32], at: usize)
+    requires { ⌜ (1 ≤ k) × (k < 4) × (i + k ≤ length (now values)) × (at + words k ≤ length (now space)) ⌝ }
+    ensures { λ _. ⌜ now (space .exit) ≡ afterShort (now (values .entry)) i k (now (space .entry)) at ⌝ }
+{
+    if k <= 1 {
+        return;
+    }
+    space[at + 2] = values[i + 1];
+    space[at + 3] = third(k, values[i + k - 1]);
+}
+
 // Writes the command of k writes from i on into the space at `at`.
 fn put_command(
     ids: &[u32],
@@ -53,6 +77,10 @@ fn put_command(
 {
     space[at] = values[i];
     space[at + 1] = header_of(ids[i], masks[i], k, step_at(ids, i, k));
+    if k < 4 {
+        put_short(values, i, k, space, at);
+        return;
+    }
     let mut m = 1;
     while m < k {
         space[at + 1 + m] = values[i + m];

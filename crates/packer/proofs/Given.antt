@@ -27,6 +27,9 @@ module _ (is ms vs : List ℕ) where
       let b = and-true (eqb (length is) (length ms)) (eqb (length is) (length vs)) t in
       (eqb-true _ _ (b .0), eqb-true _ _ (b .1))
 
+  pub lengths-level : length is ≡ length ms → length is ≡ length vs → level is ms vs ≡ true
+  lengths-level e f = rw (eq-eqb _ _ e, eq-eqb _ _ f)
+
   -- THE TESTS, in their order
   pub check-lengths : level is ms vs ≡ false → checkAnswer is ms vs ≡ refused 7 0
   unfolding checkAnswer
@@ -110,5 +113,4 @@ module _ (is ms vs : List ℕ) where
   -- and writes that can be packed are not refused
   pub given-check : Given is ms vs → checkAnswer is ms vs ≡ answered 0
   given-check G =
-      let t : level is ms vs ≡ true = rw (eq-eqb _ _ (G .masks), eq-eqb _ _ (G .values)) in
-      check-writes is ms vs t (G .few) ∙ packable-wrong 0 (writes is ms vs) (G .packable)
+      check-writes is ms vs (lengths-level is ms vs (G .masks) (G .values)) (G .few) ∙ packable-wrong 0 (writes is ms vs) (G .packable)

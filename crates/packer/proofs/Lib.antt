@@ -1,4 +1,3 @@
-pub mod Plain
 pub mod Given
 pub mod Packs
 pub mod Demand

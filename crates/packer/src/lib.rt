@@ -1,10 +1,13 @@
 // A run of writes packed into the shortest list: the writes are checked, their commands planned from the run's end (crate planning), and laid out
 // from its start (crate laying). The contracts cite specs/Given.antt and specs/Packing.antt; the packed list itself is defined in crate runs.
 ghost use mathlib.Core.Path.{_≡_};
-ghost use Prim.Native.Nat.{_≤_, _<_};
+ghost use mathlib.Core.Bool.{true};
+ghost use mathlib.Core.List.{List};
+ghost use Prim.Native.Nat.{ℕ, _≤_, _<_};
 ghost use lib.ListN.{length};
 ghost use Rattle.runs.specs.Packed.{writes, Given, packed};
-ghost use Rattle.packer.specs.Given.{wrong, checkAnswer, found};
+ghost use Rattle.numbers.specs.Answer.{answered};
+ghost use Rattle.packer.specs.Given.{wrong, firstWrong, checkAnswer, found};
 ghost use Rattle.packer.specs.Packing.{told, ifRoom, packAnswer, spaceAfter, packSpace};
 use words::Refusal;
 
@@ -12,10 +15,6 @@ use words::Refusal;
 fn wrong_with(id: u32, mask: u32) -> u32
     ensures { λ r. ⌜ r ≡ wrong id mask ⌝ }
 {
-    // Most writes: all four bytes of an id below the jump registers.
-    if (mask == 15) & (id < 0x23C) {
-        return 0;
-    }
     if 15 < mask {
         return words::MASK_ABOVE_15;
     }
@@ -25,6 +24,42 @@ fn wrong_with(id: u32, mask: u32) -> u32
 pub enum Checked {
     Fine,
     Refused(Refusal),
+}
+
+// 1 for a write that is refused, else 0.
+fn counted(id: u32, mask: u32) -> u32
+    ensures { λ r. ⌜ (r ≤ 1) × (r ≡ 0 → wrong id mask ≡ 0) ⌝ }
+{
+    let why = wrong_with(id, mask);
+    if why == 0 {
+        return 0;
+    }
+    1
+}
+
+// How many writes are refused. All are looked at, without a branch that depends on one of them, so that several go at once.
+fn count_wrong(ids: &[u32], masks: &[u32]) -> u32
+    requires { ⌜ (length (now ids) ≡ length (now masks)) × (length (now ids) ≤ 4096) ⌝ }
+    ensures { λ r. ⌜ ((vs : List ℕ) → length (now (ids .entry)) ≡ length vs → r ≡ 0 → firstWrong 0 (writes (now (ids .entry)) (now (masks .entry)) vs) ≡ answered 0) ⌝ }
+{
+    let mut count = 0;
+    let mut i = 0;
+    while i < ids.len() {
+        count += counted(ids[i], masks[i]);
+        i += 1;
+    }
+    count
+}
+
+// Whether it is seen at once that no write is refused; a short run is searched as fast as it is counted.
+fn all_right(ids: &[u32], masks: &[u32]) -> bool
+    requires { ⌜ (length (now ids) ≡ length (now masks)) × (length (now ids) ≤ 4096) ⌝ }
+    ensures { λ r. ⌜ ((vs : List ℕ) → length (now (ids .entry)) ≡ length vs → r ≡ true → firstWrong 0 (writes (now (ids .entry)) (now (masks .entry)) vs) ≡ answered 0) ⌝ }
+{
+    if ids.len() < 16 {
+        return false;
+    }
+    count_wrong(ids, masks) == 0
 }
 
 // What is wrong with the writes: 7, 8, or the first write that is refused, with 9, 3, 4 or 5 and its index.
@@ -43,6 +78,9 @@ pub fn check(ids: &[u32], masks: &[u32], values: &[u32]) -> Checked
             number: words::TOO_MANY_WRITES,
             place: 0,
         });
+    }
+    if all_right(ids, masks) {
+        return Checked::Fine;
     }
     let mut i = 0;
     while i < n {

@@ -1,2 +1,3 @@
+pub mod ByEnds
 pub mod Plans
 pub mod Once

@@ -3,13 +3,13 @@
 ghost use mathlib.Core.Path.{_≡_};
 ghost use mathlib.Core.Bool.{_&&_};
 ghost use mathlib.Core.List.{List};
-ghost use Prim.Native.Nat.{ℕ, _+_, _-_, _≤_, _<_, min, max};
-ghost use lib.Dec.{eqb};
-ghost use lib.ListN.{length, getD, drop};
+ghost use Prim.Native.Nat.{ℕ, _+_, _-_, _≤_, _<_, min};
+ghost use lib.Dec.{eqb, ltb};
+ghost use lib.ListN.{length, drop};
 ghost use Rattle.numbers.specs.Pick.{pick};
 ghost use Rattle.cuts.specs.Cuts.{words};
 ghost use Rattle.runs.specs.Packed.{writes};
-ghost use Rattle.planning.specs.Plan.{Chose, Planned};
+ghost use Rattle.planning.specs.Plan.{sizeBy, wordsBy, Longest, Chose, Planned};
 
 fn wide(x: u16) -> usize
     ensures { λ r. ⌜ (r ≡ x) × (r < 65536) ⌝ }
@@ -25,6 +25,26 @@ pub fn words_of(k: usize) -> usize
     k / 2 * 2 + 2
 }
 
+// The step to the next id: 1 where it is one further, else 0.
+fn step_to(id: u32, next: u32) -> usize
+    ensures { λ r. ⌜ r ≡ pick (eqb next (id + 1)) 1 0 ⌝ }
+{
+    if next as usize == id as usize + 1 {
+        return 1;
+    }
+    0
+}
+
+// How many writes go on by `step`, where a `run` of them goes on by the step `was`: ids that go on by one step do not go on by the other.
+fn going_on(step: usize, was: usize, run: usize) -> usize
+    ensures { λ r. ⌜ r ≡ pick (eqb step was) run 1 ⌝ }
+{
+    if step == was {
+        return run;
+    }
+    1
+}
+
 // A write together with the `rest` after it, where the next has its mask and the id `step` further; else alone.
 fn linked(id: u32, next: u32, step: usize, alike: bool, rest: usize) -> usize
     requires { ⌜ (step < 2) × (rest ≤ 4096) ⌝ }
@@ -36,20 +56,52 @@ fn linked(id: u32, next: u32, step: usize, alike: bool, rest: usize) -> usize
     1
 }
 
-// The larger of the two, held to 256.
-fn span_of(same: usize, rise: usize) -> usize
-    ensures { λ r. ⌜ r ≡ min 256 (max same rise) ⌝ }
+// A RUN of writes is what one command could carry, were it not for the limit of 256. The plan holds what is left after it (`last`) and after all of
+// it but one write (`before`), in words; a run shorter than two is taken for one of two. Each is found without a branch that only chance decides.
+
+// An end of a run: as it was from the next write on where the run is of three or more, else anew.
+fn end_at(run: usize, was: usize, anew: usize) -> usize
+    ensures { λ r. ⌜ r ≡ pick (ltb 2 run) was anew ⌝ }
 {
-    if same < rise {
-        if 256 < rise {
-            return 256;
-        }
-        return rise;
+    if 2 < run {
+        return was;
     }
-    if 256 < same {
-        return 256;
+    anew
+}
+
+// The words from a run's first write on, by its ends: an even run takes those of one write fewer, with the last of it or without.
+fn words_by(run: usize, last: usize, before: usize) -> usize
+    requires { ⌜ (run ≤ 4096) × (last ≤ 8192) × (before ≤ 8192) ⌝ }
+    ensures { λ r. ⌜ r ≡ wordsBy run last before ⌝ }
+{
+    if run % 2 == 0 {
+        return run + before;
     }
-    same
+    run + 1 + last
+}
+
+// The same of a run whose ends are known for three writes or more: one or two take two words more than `next`, what is left after the first of them.
+fn words_at(run: usize, next: usize, last: usize, before: usize) -> usize
+    requires { ⌜ (run ≤ 4096) × (next ≤ 8192) × (last ≤ 8192) × (before ≤ 8192) ⌝ }
+    ensures { λ r. ⌜ r ≡ pick (ltb 2 run) (wordsBy run last before) (next + 2) ⌝ }
+{
+    let long = words_by(run, last, before);
+    if 2 < run {
+        return long;
+    }
+    next + 2
+}
+
+// The first command's size where it can carry n writes: n, or one fewer where that takes fewer words, which an even n alone can do: an odd n has no
+// padding word to save.
+fn size_by(n: usize, last: usize, before: usize) -> usize
+    requires { ⌜ (1 ≤ n) × (last ≤ 65535) ⌝ }
+    ensures { λ r. ⌜ r ≡ sizeBy n last before ⌝ }
+{
+    if (n % 2 == 0) & (before < last + 2) {
+        return n - 1;
+    }
+    n
 }
 
 // The first command's size, and the words of the run with it.
@@ -58,30 +110,21 @@ struct Choice {
     words: usize,
 }
 
-// The choice at write i, whose command can carry n writes: n, or one fewer where that takes fewer words, which an even n alone can do: an odd n
-// has no padding word to save, and what is left after one write more takes no more words.
-fn choose(least: &[u16], i: usize, n: usize) -> Choice
-    requires { ⌜ (1 ≤ n) × (n ≤ 256) × (i + n < length (now least)) × (i + n ≤ 4096) × (2 ≤ n → getD (now least) (i + n) 0 ≤ getD (now least) (i + n - 1) 0) ⌝ }
-    ensures { λ r. ⌜ Chose n (drop (i + 1) (now (least .entry))) r ⌝ }
+// The choice at write i. A run longer than a command doesn't end where the command does, so what is left there is looked up.
+fn choose(least: &[u16], i: usize, run: usize, last: usize, before: usize, words: usize) -> Choice
+    requires { ⌜ Longest (now least) i run last before words ⌝ }
+    ensures { λ r. ⌜ Chose (min 256 run) (drop (i + 1) (now (least .entry))) r ⌝ }
 {
-    let whole = words_of(n) + wide(least[i + n]);
-    if n % 2 == 1 {
+    if 256 < run {
+        let fewer = wide(least[i + 255]);
+        let size = size_by(256, wide(least[i + 256]), fewer);
         return Choice {
-            size: n,
-            words: whole,
+            size,
+            words: 256 + fewer,
         };
     }
-    let fewer = words_of(n - 1) + wide(least[i + n - 1]);
-    if fewer < whole {
-        return Choice {
-            size: n - 1,
-            words: fewer,
-        };
-    }
-    Choice {
-        size: n,
-        words: whole,
-    }
+    let size = size_by(run, last, before);
+    Choice { size, words }
 }
 
 // Plans a run, whatever its values: answers its least words, and puts one fewer than the size of the first command from each write on into `extra`.
@@ -91,8 +134,11 @@ pub fn plan_run(ids: &[u32], masks: &[u32], least: &mut [u16], extra: &mut [u8])
 {
     let mut i = ids.len();
     let mut need = 0;
-    let mut same = 0;
-    let mut rise = 0;
+    let mut after = 0;
+    let mut was = 0;
+    let mut run = 0;
+    let mut last = 0;
+    let mut before = 0;
     let mut next_id = 0;
     let mut next_mask = 0;
     least[i] = 0;
@@ -100,12 +146,22 @@ pub fn plan_run(ids: &[u32], masks: &[u32], least: &mut [u16], extra: &mut [u8])
         i -= 1;
         let id = ids[i];
         let mask = masks[i];
-        let alike = next_mask == mask;
-        same = linked(id, next_id, 0, alike, same);
-        rise = linked(id, next_id, 1, alike, rise);
+        let step = step_to(id, next_id);
+        run = linked(
+            id,
+            next_id,
+            step,
+            next_mask == mask,
+            going_on(step, was, run),
+        );
+        was = step;
         next_id = id;
         next_mask = mask;
-        let chosen = choose(least, i, span_of(same, rise));
+        let words = words_at(run, need, last, before);
+        last = end_at(run, last, after);
+        before = end_at(run, before, need);
+        let chosen = choose(least, i, run, last, before, words);
+        after = need;
         need = chosen.words;
         least[i] = need as u16;
         extra[i] = (chosen.size - 1) as u8;

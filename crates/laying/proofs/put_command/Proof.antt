@@ -9,7 +9,7 @@ use borrow.Author.Needs.{needs}
 use Rattle.cuts.specs.Cuts.{words}
 use Rattle.runs.specs.Packed.{writes, header, command}
 use Rattle.numbers.proofs.Copy.{next-word}
-use Rattle.laying.proofs.Lays.{copy-more, copied, word-extra, word-pad, plain-at, two-words}
+use Rattle.laying.proofs.Lays.{copy-more, copied, word-extra, word-pad, plain-at, two-words, short-words}
 use Rattle.laying.proofs.put_command.Statement.{statement}
 use Rattle.laying.proofs.put_command.Tie as tie
 
@@ -93,12 +93,29 @@ begun c =
 long : (c : tie.After-header-of Inv-loop μ-loop) → length (after-two c) ≡ length (start c .args .space .now)
 long c = length-set (set (start c .args .space .now) _ _) _ _ ∙ length-set (start c .args .space .now) _ _
 
+put-short-requires : tie.Need-put-short-requires Inv-loop μ-loop
+put-short-requires c κs =
+    let b = start (c .before .before) in
+    (b .pre .1 .low, c .before .if1 .taken, omega (arith, b .pre .0 .values, b .pre .2), omega (arith, b .pre .3, long (c .before .before)))
+
+same-length : tie.Need-same-length Inv-loop μ-loop
+same-length c =
+    c .before .before .put-short .kept .1 .1 .1 .0 ∙ long (c .before .before .before .before .before)
+
+returns : tie.Need-returns Inv-loop μ-loop
+returns c =
+    let h = c .before .before .before .before .before in
+    let b = start h in
+    let a = b .args in
+    c .before .before .put-short .ensures
+    ∙ short-words (a .ids .now) (a .masks .now) (a .values .now) (b .pre .0) (a .i) (a .k) (b .pre .1) (a .space .now) (after-two h) (a .at) (c .before .before .before .before .if1 .taken) (b .pre .3) (begun h)
+
 loop-holds : tie.Need-loop-holds Inv-loop μ-loop
 loop-holds c =
-    let b = c .before .before .before .before .before .before .before .before .before in
+    let b = c .before .before .before .before .before .before .before .before .before .before in
     let a = b .args in
-    let C = words-put c in
-    let e = begun c in
+    let C = words-put (c .before) in
+    let e = begun (c .before) in
     (omega arith, b .pre .1 .low, refl, rw e (sym (copy-more (a .space .now) C (a .at) 2 (1 + 1) (omega (arith, b .pre .3, b .pre .1 .low)) (omega (arith, b .pre .1 .long)) (omega arith))))
 
 add-space-2 : tie.Need-add-space-2 Inv-loop μ-loop
@@ -111,7 +128,7 @@ mul-space-4 c =
 
 shared-slice-read-space-2 : tie.Need-shared-slice-read-space-2 Inv-loop μ-loop
 shared-slice-read-space-2 c =
-    omega (arith, c .before .before .before .before .before .before .before .before .before .before .before .before .pre .0 .values)
+    omega (arith, c .before .before .before .before .before .before .before .before .before .before .before .before .before .pre .0 .values)
 
 add-space-3 : tie.Need-add-space-3 Inv-loop μ-loop
 add-space-3 c = search needs
@@ -126,7 +143,7 @@ mul-space-5 c =
 
 slice-write-space-3 : tie.Need-slice-write-space-3 Inv-loop μ-loop
 slice-write-space-3 c =
-    omega (arith, long (c .before .before .before))
+    omega (arith, long (c .before .before .before .before))
 
 add-m : tie.Need-add-m Inv-loop μ-loop
 add-m c = search needs
@@ -136,11 +153,11 @@ loop-less c = search needs
 
 loop-again : tie.Need-loop-again Inv-loop μ-loop
 loop-again c =
-    let b = c .before .before .before .before .before .before .before .before .before .before .before .before in
+    let b = c .before .before .before .before .before .before .before .before .before .before .before .before .before in
     let a = b .args in
     let o = c .before .before .loop in
-    let C = words-put (c .before .before .before) in
-    let l = long (c .before .before .before) in (
+    let C = words-put (c .before .before .before .before) in
+    let l = long (c .before .before .before .before) in (
       (let z : 1 ≤ o .m + 1 = omega arith in z),
       (let z : o .m + 1 ≤ a .k = omega arith in z),
       length-set (o .space) _ _ ∙ o .inv .2,
@@ -159,33 +176,33 @@ mul-space-6 c = search needs
 
 slice-write-space-4 : tie.Need-slice-write-space-4 Inv-loop μ-loop
 slice-write-space-4 c =
-    omega (arith, long (c .before .before .before))
-
-same-length : tie.Need-same-length Inv-loop μ-loop
-same-length c =
-    length-set (c .before .before .loop .space) _ _ ∙ c .before .before .loop .inv .2 ∙ long (c .before .before .before)
-
-returns : tie.Need-returns Inv-loop μ-loop
-returns c =
-    let b = c .before .before .before .before .before .before .before .before .before .before .before .before in
-    let a = b .args in
-    let o = c .before .before .loop in
-    let C = words-put (c .before .before .before) in
-    let z = copied (a .space .now) C _ (o .space) (a .at) (o .m) (a .k + 1) (begun (c .before .before .before)) (o .inv .3) (omega arith) (omega (arith, b .pre .1 .low)) (omega arith) (omega (arith, b .pre .1 .long)) in
-    next-word (a .space .now) C (a .at) (a .k + 1) (a .at + 1 + a .k) (words (a .k)) 0 (o .space) (omega arith) (omega arith) (omega arith) (omega (arith, b .pre .1 .long)) z
-    (word-pad (a .ids .now) (a .masks .now) (a .values .now) (b .pre .0) (a .i) (a .k) (b .pre .1) (omega arith))
+    omega (arith, long (c .before .before .before .before))
 
 same-length-2 : tie.Need-same-length-2 Inv-loop μ-loop
 same-length-2 c =
-    c .before .before .loop .inv .2 ∙ long (c .before .before .before)
+    length-set (c .before .before .loop .space) _ _ ∙ c .before .before .loop .inv .2 ∙ long (c .before .before .before .before)
 
 returns-2 : tie.Need-returns-2 Inv-loop μ-loop
 returns-2 c =
-    let b = c .before .before .before .before .before .before .before .before .before .before .before .before in
+    let b = c .before .before .before .before .before .before .before .before .before .before .before .before .before in
     let a = b .args in
     let o = c .before .before .loop in
-    let C = words-put (c .before .before .before) in
-    copied (a .space .now) C _ (o .space) (a .at) (o .m) (words (a .k)) (begun (c .before .before .before)) (o .inv .3) (omega arith) (omega (arith, b .pre .1 .low)) (omega arith) (omega (arith, b .pre .1 .long))
+    let C = words-put (c .before .before .before .before) in
+    let z = copied (a .space .now) C _ (o .space) (a .at) (o .m) (a .k + 1) (begun (c .before .before .before .before)) (o .inv .3) (omega arith) (omega (arith, b .pre .1 .low)) (omega arith) (omega (arith, b .pre .1 .long)) in
+    next-word (a .space .now) C (a .at) (a .k + 1) (a .at + 1 + a .k) (words (a .k)) 0 (o .space) (omega arith) (omega arith) (omega arith) (omega (arith, b .pre .1 .long)) z
+    (word-pad (a .ids .now) (a .masks .now) (a .values .now) (b .pre .0) (a .i) (a .k) (b .pre .1) (omega arith))
+
+same-length-3 : tie.Need-same-length-3 Inv-loop μ-loop
+same-length-3 c =
+    c .before .before .loop .inv .2 ∙ long (c .before .before .before .before)
+
+returns-3 : tie.Need-returns-3 Inv-loop μ-loop
+returns-3 c =
+    let b = c .before .before .before .before .before .before .before .before .before .before .before .before .before in
+    let a = b .args in
+    let o = c .before .before .loop in
+    let C = words-put (c .before .before .before .before) in
+    copied (a .space .now) C _ (o .space) (a .at) (o .m) (words (a .k)) (begun (c .before .before .before .before)) (o .inv .3) (omega arith) (omega (arith, b .pre .1 .low)) (omega arith) (omega (arith, b .pre .1 .long))
 
 pub put-command-spec : {M : Type 1} → statement M
 put-command-spec =
@@ -206,6 +223,9 @@ put-command-spec =
     add-space
     mul-space-3
     slice-write-space-2
+    put-short-requires
+    same-length
+    returns
     loop-holds
     add-space-2
     mul-space-4
@@ -221,7 +241,7 @@ put-command-spec =
     add-space-6
     mul-space-6
     slice-write-space-4
-    same-length
-    returns
     same-length-2
-    returns-2)
+    returns-2
+    same-length-3
+    returns-3)

@@ -26,20 +26,32 @@ returns-2 : tie.Need-returns-2 Inv-loop μ-loop
 returns-2 c =
     sym (check-many _ _ _ (not-false _ (c .before .if1 .left)) (c .if2 .taken))
 
+all-right-requires : tie.Need-all-right-requires Inv-loop μ-loop
+all-right-requires c κs =
+    let a = c .before .before .before .before .before .args in
+    (level-lengths (a .ids .now) (a .masks .now) (a .values .now) (not-false _ (c .before .if1 .left)) .0, c .if2 .left)
+
+returns-3 : tie.Need-returns-3 Inv-loop μ-loop
+returns-3 c =
+    let a = c .before .before .before .before .before .before .before .args in
+    let t = not-false _ (c .before .before .before .if1 .left) in
+    let l = level-lengths (a .ids .now) (a .masks .now) (a .values .now) t in
+    sym (check-writes _ _ _ t (c .before .before .if2 .left) ∙ c .before .all-right .ensures (a .values .now) (l .1) (c .if3 .taken))
+
 loop-holds : tie.Need-loop-holds Inv-loop μ-loop
 loop-holds c =
     (omega arith, refl)
 
 abbrev start : tie.At-loop Inv-loop μ-loop → tie.Start Inv-loop μ-loop
-start c = c .before .before .before .before .before .before
+start c = c .before .before .before .before .before .before .before .before
 
 one-length : (c : tie.At-loop Inv-loop μ-loop) → level (start c .args .ids .now) (start c .args .masks .now) (start c .args .values .now) ≡ true
-one-length c = not-false _ (c .before .before .if1 .left)
+one-length c = not-false _ (c .before .before .before .before .if1 .left)
 
 from-i : (c : tie.At-loop Inv-loop μ-loop)
     → checkAnswer (start c .args .ids .now) (start c .args .masks .now) (start c .args .values .now)
     ≡ firstWrong (c .loop .i) (drop (c .loop .i) (writes (start c .args .ids .now) (start c .args .masks .now) (start c .args .values .now)))
-from-i c = check-writes _ _ _ (one-length c) (c .before .if2 .left) ∙ c .loop .inv .1
+from-i c = check-writes _ _ _ (one-length c) (c .before .before .before .if2 .left) ∙ c .loop .inv .1
 
 mul-wrong-with : tie.Need-mul-wrong-with Inv-loop μ-loop
 mul-wrong-with c = search needs
@@ -59,11 +71,11 @@ shared-slice-read-wrong-with-2 c =
 wrong-with-requires : tie.Need-wrong-with-requires Inv-loop μ-loop
 wrong-with-requires c κs = search needs
 
-returns-3 : tie.Need-returns-3 Inv-loop μ-loop
-returns-3 c =
+returns-4 : tie.Need-returns-4 Inv-loop μ-loop
+returns-4 c =
     let a = start (c .before .before .before .before .before) .args in
     let w = c .before .wrong-with in
-    sym (from-i (c .before .before .before .before .before) ∙ wrong-here (a .ids .now) (a .masks .now) (a .values .now) _ (one-length (c .before .before .before .before .before)) (c .before .before .before .before .loop-test .taken) (w .result) (w .ensures) (c .if3 .taken))
+    sym (from-i (c .before .before .before .before .before) ∙ wrong-here (a .ids .now) (a .masks .now) (a .values .now) _ (one-length (c .before .before .before .before .before)) (c .before .before .before .before .loop-test .taken) (w .result) (w .ensures) (c .if4 .taken))
 
 add-i : tie.Need-add-i Inv-loop μ-loop
 add-i c = search needs
@@ -75,10 +87,10 @@ loop-again : tie.Need-loop-again Inv-loop μ-loop
 loop-again c =
     let a = start (c .before .before .before .before .before) .args in
     let w = c .before .wrong-with in
-    (omega arith, c .before .before .before .before .before .loop .inv .1 ∙ wrong-none (a .ids .now) (a .masks .now) (a .values .now) _ (one-length (c .before .before .before .before .before)) (c .before .before .before .before .loop-test .taken) (w .result) (w .ensures) (c .if3 .left))
+    (omega arith, c .before .before .before .before .before .loop .inv .1 ∙ wrong-none (a .ids .now) (a .masks .now) (a .values .now) _ (one-length (c .before .before .before .before .before)) (c .before .before .before .before .loop-test .taken) (w .result) (w .ensures) (c .if4 .left))
 
-returns-4 : tie.Need-returns-4 Inv-loop μ-loop
-returns-4 c =
+returns-5 : tie.Need-returns-5 Inv-loop μ-loop
+returns-5 c =
     let a = start (c .before) .args in
     sym (from-i (c .before) ∙ wrong-end (a .ids .now) (a .masks .now) (a .values .now) _ (one-length (c .before)) (c .loop-test .left))
 
@@ -90,14 +102,16 @@ check-spec =
     μ-loop
     returns
     returns-2
+    all-right-requires
+    returns-3
     loop-holds
     mul-wrong-with
     shared-slice-read-wrong-with
     mul-wrong-with-2
     shared-slice-read-wrong-with-2
     wrong-with-requires
-    returns-3
+    returns-4
     add-i
     loop-less
     loop-again
-    returns-4)
+    returns-5)

@@ -1,29 +1,27 @@
--- The loop, from the end of the run: the two chains, the least words and the tables are right from write i on, whatever the values;
--- the id and the mask of write i are held for the one before it. Assumes nothing.
+-- The loop, from the end of the run: the run of writes that one command could carry, the least words and the tables are right from write i on,
+-- whatever the values; the id and the mask of write i are held for the one before it. Assumes nothing.
 use mathlib.Core.Path.{_≡_, refl, sym, _∙_}
-use mathlib.Core.Bool.{_&&_}
+use mathlib.Core.Bool.{Bool, _&&_}
 use mathlib.Core.List.{List}
-use Prim.Native.Nat.{ℕ, _+_, _-_, _≤_, _<_}
+use Prim.Native.Nat.{ℕ, _+_, _-_, _≤_, _<_, max}
 use native.Mathlib.Omega.{arith}
 use lib.Dec.{eqb}
 use lib.ListN.{length, getD, drop, length-set, length-drop}
 use borrow.Author.Needs.{needs}
-use Rattle.numbers.specs.Pick.{pick}
 use Rattle.words.specs.Writes.{Write}
-use Rattle.cuts.specs.Cuts.{least}
 use Rattle.runs.specs.Span.{chain}
 use Rattle.runs.specs.Packed.{writes}
 use Rattle.runs.proofs.Chain.{chain-fits}
 use Rattle.runs.proofs.Writes.{writes-length}
-use Rattle.planning.proofs.Plans.{plan-falls, Kept, kept-none, kept-more, chain-linked, span-within, Right, choice-right}
+use Rattle.planning.proofs.Plans.{chain-linked, chain-on, chain-apart, step-two, run-some, run-longer, Run, least-small, ends-more, Kept, kept-none, kept-more, run-span, run-longest, Right, choice-right}
 use Rattle.planning.proofs.plan_run.Statement.{statement}
 use Rattle.planning.proofs.plan_run.Tie as tie
 
 abbrev Inv-loop : tie.InvT-loop
-Inv-loop ids masks least₀ extra₀ i₀ need₀ same₀ rise₀ next-id₀ next-mask₀ least extra i need same rise next-id next-mask = (i ≤ length ids) × (length least ≡ length least₀) × (length extra ≡ length extra₀) × (i < length ids → (next-id ≡ getD ids i 0) × (next-mask ≡ getD masks i 0)) × ((vs : List ℕ) → length ids ≡ length vs → Kept (writes ids masks vs) i same rise need least extra)
+Inv-loop ids masks least₀ extra₀ i₀ need₀ after₀ was₀ run₀ last₀ before₀ next-id₀ next-mask₀ least extra i need after was run last before next-id next-mask = (i ≤ length ids) × (length least ≡ length least₀) × (length extra ≡ length extra₀) × (was < 2) × (i < length ids → (next-id ≡ getD ids i 0) × (next-mask ≡ getD masks i 0)) × (length ids ≤ i → (was ≡ 0) × (next-id ≡ 0)) × ((vs : List ℕ) → length ids ≡ length vs → Kept (writes ids masks vs) i was run last before need after least extra)
 
 abbrev μ-loop : tie.MeasureT-loop
-μ-loop ids masks least₀ extra₀ i₀ need₀ same₀ rise₀ next-id₀ next-mask₀ least extra i need same rise next-id next-mask = i
+μ-loop ids masks least₀ extra₀ i₀ need₀ after₀ was₀ run₀ last₀ before₀ next-id₀ next-mask₀ least extra i need after was run last before next-id next-mask = i
 
 mul-least : tie.Need-mul-least Inv-loop μ-loop
 mul-least c = search needs
@@ -38,7 +36,9 @@ loop-holds c =
       (let z : length (a .ids .now) ≤ length (a .ids .now) = omega arith in z),
       refl,
       refl,
+      (let z : 0 < 2 = omega arith in z),
       (λ q. absurd (omega arith)),
+      (λ q. (refl, refl)),
       (λ vs q. kept-none (writes (a .ids .now) (a .masks .now) vs) (length (a .ids .now)) (a .least .now) (a .extra .now) (sym (writes-length (a .ids .now) (a .masks .now) vs (b .pre .0) q)) (b .pre .2)),
     )
 
@@ -57,103 +57,156 @@ mul-mask c = search needs
 shared-slice-read-mask : tie.Need-shared-slice-read-mask Inv-loop μ-loop
 shared-slice-read-mask c = search needs
 
-linked-requires : tie.Need-linked-requires Inv-loop μ-loop
-linked-requires c κs =
-    let b = c .before .before .before .before .before .before .before .before in
-    let a = b .args in
-    let o = c .before .before .before .loop in
-    let ws = writes (a .ids .now) (a .masks .now) (a .ids .now) in
-    omega (arith, o .inv .4 (a .ids .now) refl .sames, chain-fits 0 (drop (o .i) ws), length-drop (o .i) ws, writes-length (a .ids .now) (a .masks .now) (a .ids .now) (b .pre .0) refl)
+step-to-requires : tie.Need-step-to-requires Inv-loop μ-loop
+step-to-requires c κs = search needs
 
-linked-requires-2 : tie.Need-linked-requires-2 Inv-loop μ-loop
-linked-requires-2 c κs =
-    let b = c .before .before .before .before .before .before .before .before .before in
-    let a = b .args in
-    let o = c .before .before .before .before .loop in
-    let ws = writes (a .ids .now) (a .masks .now) (a .ids .now) in
-    omega (arith, o .inv .4 (a .ids .now) refl .rises, chain-fits 1 (drop (o .i) ws), length-drop (o .i) ws, writes-length (a .ids .now) (a .masks .now) (a .ids .now) (b .pre .0) refl)
+going-on-requires : tie.Need-going-on-requires Inv-loop μ-loop
+going-on-requires c κs = search needs
 
-abbrev start : tie.After-linked2 Inv-loop μ-loop → tie.Start Inv-loop μ-loop
+-- THE CHAIN: the writes after write i - 1 that go on by the step to the next id
+
+abbrev start : tie.After-going-on Inv-loop μ-loop → tie.Start Inv-loop μ-loop
 start c = c .before .before .before .before .before .before .before .before .before .before
 
-abbrev turn : tie.After-linked2 Inv-loop μ-loop → tie.At-loop Inv-loop μ-loop
+abbrev turn : tie.After-going-on Inv-loop μ-loop → tie.At-loop Inv-loop μ-loop
 turn c = c .before .before .before .before .before
 
-abbrev run : tie.After-linked2 Inv-loop μ-loop → List ℕ → List Write
+abbrev run : tie.After-going-on Inv-loop μ-loop → List ℕ → List Write
 run c vs = writes (start c .args .ids .now) (start c .args .masks .now) vs
 
-run-length : (c : tie.After-linked2 Inv-loop μ-loop) (vs : List ℕ) → length (start c .args .ids .now) ≡ length vs
+run-length : (c : tie.After-going-on Inv-loop μ-loop) (vs : List ℕ) → length (start c .args .ids .now) ≡ length vs
     → length (run c vs) ≡ length (start c .args .ids .now)
 run-length c vs q = writes-length (start c .args .ids .now) (start c .args .masks .now) vs (start c .pre .0) q
 
-chained : (c : tie.After-linked2 Inv-loop μ-loop) (vs : List ℕ) → length (start c .args .ids .now) ≡ length vs → (s n r : ℕ)
-    → n ≡ chain s (drop (turn c .loop .i) (run c vs))
-    → r ≡ pick (eqb (turn c .loop .next-id) (getD (start c .args .ids .now) (turn c .loop .i - 1) 0 + s) && eqb (turn c .loop .next-mask) (getD (start c .args .masks .now) (turn c .loop .i - 1) 0)) (n + 1) 1
-    → r ≡ chain s (drop (turn c .loop .i - 1) (run c vs))
-chained c vs q s n r p e =
-    let a = start c .args in
+goes-on : (c : tie.After-going-on Inv-loop μ-loop) (vs : List ℕ) → length (start c .args .ids .now) ≡ length vs
+    → c .going-on .result ≡ chain (c .before .step-to .result) (drop (turn c .loop .i) (run c vs))
+goes-on c vs q =
     let o = turn c .loop in
-    chain-linked s (a .ids .now) (a .masks .now) vs (o .i) (o .i - 1) (o .next-id) (o .next-mask) n r (start c .pre .0) q (omega arith) (omega arith) (o .inv .3) p e
+    let K = o .inv .6 vs q .runs in
+    let n = run-length c vs q in
+    chain-on (run c vs) (o .i) (o .was) (o .run) (o .next-id) _ (c .before .step-to .result) (c .going-on .result) (o .inv .3) (K .writes) (K .alone)
+    (λ h. o .inv .5 (omega arith)) (c .before .step-to .ensures) (c .going-on .ensures)
 
-chains : (c : tie.After-linked2 Inv-loop μ-loop) (vs : List ℕ) → length (start c .args .ids .now) ≡ length vs
-    → (c .before .linked .result ≡ chain 0 (drop (turn c .loop .i - 1) (run c vs))) × (c .linked2 .result ≡ chain 1 (drop (turn c .loop .i - 1) (run c vs)))
-chains c vs q =
-    let K = turn c .loop .inv .4 vs q in
-    (chained c vs q 0 _ _ (K .sames) (c .before .linked .ensures), chained c vs q 1 _ _ (K .rises) (c .linked2 .ensures))
+steps : (c : tie.After-going-on Inv-loop μ-loop) → c .before .step-to .result < 2
+steps c = step-two (turn c .loop .next-id) (getD (start c .args .ids .now) (turn c .loop .i - 1) 0) (c .before .step-to .result) (c .before .step-to .ensures)
 
-span-of-requires : tie.Need-span-of-requires Inv-loop μ-loop
-span-of-requires c κs = search needs
+linked-requires : tie.Need-linked-requires Inv-loop μ-loop
+linked-requires c κs =
+    let i = start c .args .ids .now in
+    let l = drop (turn c .loop .i) (run c i) in
+    omega (arith, steps c, goes-on c i refl, chain-fits (c .before .step-to .result) l, length-drop (turn c .loop .i) (run c i), run-length c i refl)
+
+links : (c : tie.After-linked Inv-loop μ-loop) (vs : List ℕ) → length (start (c .before) .args .ids .now) ≡ length vs
+    → c .linked .result ≡ chain (c .before .before .step-to .result) (drop (turn (c .before) .loop .i - 1) (run (c .before) vs))
+links c vs q =
+    let g = c .before in
+    let a = start g .args in
+    let o = turn g .loop in
+    chain-linked (g .before .step-to .result) (a .ids .now) (a .masks .now) vs (o .i) (o .i - 1) (o .next-id) (o .next-mask) (g .going-on .result) (c .linked .result)
+    (start g .pre .0) q (omega arith) (omega arith) (o .inv .4) (goes-on g vs q) (c .linked .ensures)
+
+words-at-requires : tie.Need-words-at-requires Inv-loop μ-loop
+words-at-requires c κs =
+    let g = c .before in
+    let i = start g .args .ids .now in
+    let o = turn g .loop in
+    let K = o .inv .6 i refl in
+    let ws = run g i in
+    let n = run-length g i refl in (
+      omega (arith, links c i refl, chain-fits (g .before .step-to .result) (drop (o .i - 1) ws), length-drop (o .i - 1) ws),
+      omega (arith, least-small ws (o .i) (o .need) (K .words)),
+      omega (arith, least-small ws (o .i + max 2 (o .run)) (o .last) (K .runs .lasts)),
+      omega (arith, least-small ws (o .i + max 2 (o .run) - 1) (o .before) (K .runs .befores)),
+    )
+
+end-at-requires : tie.Need-end-at-requires Inv-loop μ-loop
+end-at-requires c κs = search needs
+
+end-at-requires-2 : tie.Need-end-at-requires-2 Inv-loop μ-loop
+end-at-requires-2 c κs = search needs
+
+-- THE RUN from write i - 1 on
+
+abbrev link : tie.After-end-at2 Inv-loop μ-loop → tie.After-linked Inv-loop μ-loop
+link c = c .before .before .before
+
+abbrev going : tie.After-end-at2 Inv-loop μ-loop → tie.After-going-on Inv-loop μ-loop
+going c = link c .before
+
+-- the next write has the mask of this one, and its id is a step further
+abbrev joins : tie.After-end-at2 Inv-loop μ-loop → Bool
+joins c =
+    let g = going c in
+    let o = turn g .loop in
+    eqb (o .next-id) (getD (start g .args .ids .now) (o .i - 1) 0 + g .before .step-to .result) && eqb (o .next-mask) (getD (start g .args .masks .now) (o .i - 1) 0)
+
+some : (c : tie.After-end-at2 Inv-loop μ-loop) → 1 ≤ link c .linked .result
+some c = run-some (joins c) (going c .going-on .result) (link c .linked .result) (link c .linked .ensures)
+
+runs : (c : tie.After-end-at2 Inv-loop μ-loop) (vs : List ℕ) → length (start (going c) .args .ids .now) ≡ length vs
+    → Run (run (going c) vs) (turn (going c) .loop .i - 1) (going c .before .step-to .result) (link c .linked .result) (c .before .end-at .result) (c .end-at2 .result)
+runs c vs q =
+    let g = going c in
+    let a = start g .args in
+    let o = turn g .loop in
+    let K = o .inv .6 vs q in
+    let E =
+    ends-more (run g vs) (o .i) (o .i - 1) (o .was) (o .run) (o .last) (o .before) (o .need) (o .after) (link c .linked .result) (c .before .end-at .result) (c .end-at2 .result) (omega arith) (K .runs) (K .words) (K .next)
+    (run-longer (joins c) (eqb (g .before .step-to .result) (o .was)) (o .run) (g .going-on .result) (link c .linked .result) (g .going-on .ensures) (link c .linked .ensures)) (c .before .end-at .ensures) (c .end-at2 .ensures) in
+    record {
+      writes = links (link c) vs q;
+      alone =
+          λ h. chain-apart (a .ids .now) (a .masks .now) vs (o .i) (o .i - 1) (o .next-id) (o .next-mask) (g .before .step-to .result) (start g .pre .0) q (omega arith) (omega arith) (o .inv .4) (g .before .step-to .ensures);
+      lasts = E .0;
+      befores = E .1;
+    }
 
 choose-requires : tie.Need-choose-requires Inv-loop μ-loop
 choose-requires c κs =
-    let b = c .before .before .before .before .before .before .before .before .before .before .before .before in
-    let a = b .args in
-    let o = c .before .before .before .before .before .before .before .loop in
-    let d = chains (c .before .before) (a .ids .now) refl in
-    let n = writes-length (a .ids .now) (a .masks .now) (a .ids .now) (b .pre .0) refl in
-    let w = span-within (writes (a .ids .now) (a .masks .now) (a .ids .now)) (o .i - 1) _ _ (c .span-of .result) (omega arith) (d .0) (d .1) (c .span-of .ensures) in (
-      w .0,
-      w .1,
-      omega (arith, w .2, o .inv .1, length-set (a .least .now) (length (a .ids .now)) 0),
-      omega (arith, w .2),
-      (λ z. plan-falls (writes (a .ids .now) (a .masks .now) (a .ids .now)) (o .i) (o .i - 1 + c .span-of .result - 1) (o .i - 1 + c .span-of .result) (o .least) (o .extra) (o .inv .4 (a .ids .now) refl .plan) (omega arith) (omega (arith, w .2)) (omega arith)),
-    )
+    let d = c .before in
+    let g = going d in
+    let i = start g .args .ids .now in
+    let o = turn g .loop in
+    let K = o .inv .6 i refl in
+    let n = run-length g i refl in
+    let m = length-set (start g .args .least .now) (length i) 0 in
+    run-longest (run g i) (o .i) (o .i - 1) (g .before .step-to .result) (link d .linked .result) (d .before .end-at .result) (d .end-at2 .result) (omega arith) (steps g) (some d) (runs d i refl)
+    (o .need) (o .after) (o .last) (o .before) (o .least) (o .extra) (d .before .before .words-at .result) (omega arith) (K .plan) (K .words) (omega (arith, o .inv .1, start g .pre .2)) (omega (arith, start g .pre .1)) (d .before .end-at .ensures) (d .end-at2 .ensures) (d .before .before .words-at .ensures)
 
-abbrev linked-at : tie.After-choose Inv-loop μ-loop → tie.After-linked2 Inv-loop μ-loop
-linked-at c = c .before .before .before
+abbrev ended : tie.After-choose Inv-loop μ-loop → tie.After-end-at2 Inv-loop μ-loop
+ended c = c .before .before
 
-right : (c : tie.After-choose Inv-loop μ-loop) (vs : List ℕ) → length (start (linked-at c) .args .ids .now) ≡ length vs
-    → Right (run (linked-at c) vs) (turn (linked-at c) .loop .i - 1) (c .choose .result)
+right : (c : tie.After-choose Inv-loop μ-loop) (vs : List ℕ) → length (start (going (ended c)) .args .ids .now) ≡ length vs
+    → Right (run (going (ended c)) vs) (turn (going (ended c)) .loop .i - 1) (c .choose .result)
 right c vs q =
-    let l = linked-at c in
-    let o = turn l .loop in
-    let n = run-length l vs q in
-    let d = chains l vs q in
-    choice-right (run l vs) (o .i) (o .i - 1) (c .before .span-of .result) _ _ (o .least) (o .extra) (c .choose .result) (omega arith) (omega arith) (o .inv .4 vs q .plan) (d .0) (d .1) (c .before .span-of .ensures) (c .choose .ensures)
+    let d = ended c in
+    let g = going d in
+    let o = turn g .loop in
+    let n = run-length g vs q in
+    choice-right (run g vs) (o .i) (o .i - 1) _ (o .least) (o .extra) (c .choose .result) (omega arith) (omega arith) (o .inv .6 vs q .plan)
+    (run-span (run g vs) (o .i) (o .i - 1) (g .before .step-to .result) (link d .linked .result) _ _ (omega arith) (steps g) (some d) (runs d vs q)) (c .choose .ensures)
 
 cast-least : tie.Need-cast-least Inv-loop μ-loop
 cast-least c =
-    let b = c .before .before .before .before .before .before .before .before .before .before .before .before .before in
-    let a = b .args in
-    omega (arith, right c (a .ids .now) refl .small, writes-length (a .ids .now) (a .masks .now) (a .ids .now) (b .pre .0) refl)
+    let g = going (ended c) in
+    let i = start g .args .ids .now in
+    omega (arith, right c i refl .small, run-length g i refl)
 
 mul-least-2 : tie.Need-mul-least-2 Inv-loop μ-loop
 mul-least-2 c = search needs
 
 slice-write-least-2 : tie.Need-slice-write-least-2 Inv-loop μ-loop
 slice-write-least-2 c =
-    let a = c .before .before .before .before .before .before .before .before .before .before .before .before .before .args in
+    let a = start (going (ended c)) .args in
     omega (arith, length-set (a .least .now) (length (a .ids .now)) 0)
 
 sub-extra : tie.Need-sub-extra Inv-loop μ-loop
 sub-extra c =
-    let a = c .before .before .before .before .before .before .before .before .before .before .before .before .before .before .args in
-    omega (arith, right (c .before) (a .ids .now) refl .low)
+    omega (arith, right (c .before) (start (going (ended (c .before))) .args .ids .now) refl .low)
 
 cast-extra : tie.Need-cast-extra Inv-loop μ-loop
 cast-extra c =
-    let a = c .before .before .before .before .before .before .before .before .before .before .before .before .before .before .args in
-    omega (arith, right (c .before) (a .ids .now) refl .high)
+    omega (arith, right (c .before) (start (going (ended (c .before))) .args .ids .now) refl .high)
 
 slice-write-extra : tie.Need-slice-write-extra Inv-loop μ-loop
 slice-write-extra c = search needs
@@ -163,18 +216,21 @@ loop-less c = search needs
 
 loop-again : tie.Need-loop-again Inv-loop μ-loop
 loop-again c =
-    let b = c .before .before .before .before .before .before .before .before .before .before .before .before .before .before in
+    let d = ended (c .before) in
+    let g = going d in
+    let b = start g in
     let a = b .args in
-    let o = c .before .before .before .before .before .before .before .before .before .loop in
+    let o = turn g .loop in
     let m = length-set (a .least .now) (length (a .ids .now)) 0 in (
       (let z : o .i - 1 ≤ length (a .ids .now) = omega arith in z),
       length-set (o .least) _ _ ∙ o .inv .1,
       length-set (o .extra) _ _ ∙ o .inv .2,
+      steps g,
       (λ q. (refl, refl)),
+      (λ q. absurd (omega (arith, o .inv .0))),
       (λ vs q.
-          let n = writes-length (a .ids .now) (a .masks .now) vs (b .pre .0) q in
-          let d = chains (c .before .before .before .before) vs q in
-          kept-more (writes (a .ids .now) (a .masks .now) vs) (o .i) (o .i - 1) _ _ (o .least) (o .extra) (c .before .choose .result) (omega arith) (omega arith) (d .0) (d .1) (right (c .before) vs q) (omega arith) (omega arith) (o .inv .4 vs q .plan)),
+          let n = run-length g vs q in
+          kept-more (run g vs) (o .i) (o .i - 1) _ _ _ _ (o .need) (o .least) (o .extra) (c .before .choose .result) (omega arith) (omega arith) (runs d vs q) (o .inv .6 vs q .words) (right (c .before) vs q) (omega arith) (omega arith) (o .inv .6 vs q .plan)),
     )
 
 same-length : tie.Need-same-length Inv-loop μ-loop
@@ -192,7 +248,7 @@ returns c =
     let a = b .args in
     let o = c .before .loop in
     let z : o .i ≡ 0 = omega arith in
-    λ vs q. let K = rw z at (o .inv .4 vs q) in record { words = K .words; sizes = λ j h. K .plan .sizes j (omega arith) h }
+    λ vs q. let K = rw z at (o .inv .6 vs q) in record { words = K .words; sizes = λ j h. K .plan .sizes j (omega arith) h }
 
 pub plan-run-spec : {M : Type 1} → statement M
 plan-run-spec =
@@ -208,9 +264,12 @@ plan-run-spec =
     shared-slice-read-id
     mul-mask
     shared-slice-read-mask
+    step-to-requires
+    going-on-requires
     linked-requires
-    linked-requires-2
-    span-of-requires
+    words-at-requires
+    end-at-requires
+    end-at-requires-2
     choose-requires
     cast-least
     mul-least-2
