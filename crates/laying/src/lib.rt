@@ -50,7 +50,7 @@ fn third(k: usize, last: u32) -> u32
     0
 }
 
-// Writes what follows the first two words of a command of fewer than four writes: most are so short, and a loop would end where chance decides.
+// Writes what follows the first two words of a command of fewer than four writes: a loop over so few would end where chance decides.
 fn put_short(values: &[u32], i: usize, k: usize, space: &mut [u32], at: usize)
     requires { ⌜ (1 ≤ k) × (k < 4) × (i + k ≤ length (now values)) × (at + words k ≤ length (now space)) ⌝ }
     ensures { λ _. ⌜ now (space .exit) ≡ afterShort (now (values .entry)) i k (now (space .entry)) at ⌝ }
@@ -72,8 +72,14 @@ fn put_command(
     space: &mut [u32],
     at: usize,
 )
-    requires { ⌜ Given (now ids) (now masks) (now values) × OneCommand (drop i (writes (now ids) (now masks) (now values))) k × (i + k ≤ length (now ids)) × (at + words k ≤ length (now space)) ⌝ }
-    ensures { λ _. ⌜ now (space .exit) ≡ paste (now (space .entry)) at (command k (drop i (writes (now (ids .entry)) (now (masks .entry)) (now (values .entry))))) (words k) ⌝ }
+    requires { ⌜
+        Given (now ids) (now masks) (now values) × OneCommand (drop i (writes (now ids) (now masks) (now values))) k
+        × (i + k ≤ length (now ids)) × (at + words k ≤ length (now space))
+        ⌝ }
+    ensures { λ _. ⌜
+        now (space .exit)
+        ≡ paste (now (space .entry)) at (command k (drop i (writes (now (ids .entry)) (now (masks .entry)) (now (values .entry))))) (words k)
+        ⌝ }
 {
     space[at] = values[i];
     space[at + 1] = header_of(ids[i], masks[i], k, step_at(ids, i, k));
@@ -93,8 +99,15 @@ fn put_command(
 
 // Writes the packed list to the start of the space, by the sizes that were planned.
 pub fn lay_out(ids: &[u32], masks: &[u32], values: &[u32], extra: &[u8], space: &mut [u32])
-    requires { ⌜ Given (now ids) (now masks) (now values) × (length (now ids) ≤ length (now extra)) × Sizes (writes (now ids) (now masks) (now values)) (now extra) × (length (packed (writes (now ids) (now masks) (now values))) ≤ length (now space)) ⌝ }
-    ensures { λ _. ⌜ now (space .exit) ≡ packed (writes (now (ids .entry)) (now (masks .entry)) (now (values .entry))) ++ drop (length (packed (writes (now (ids .entry)) (now (masks .entry)) (now (values .entry))))) (now (space .entry)) ⌝ }
+    requires { ⌜
+        Given (now ids) (now masks) (now values) × (length (now ids) ≤ length (now extra))
+        × Sizes (writes (now ids) (now masks) (now values)) (now extra)
+        × (length (packed (writes (now ids) (now masks) (now values))) ≤ length (now space))
+        ⌝ }
+    ensures { λ _. ⌜
+        now (space .exit)
+        ≡ packed (writes (now (ids .entry)) (now (masks .entry)) (now (values .entry))) ++ drop (length (packed (writes (now (ids .entry)) (now (masks .entry)) (now (values .entry))))) (now (space .entry))
+        ⌝ }
 {
     let mut i = 0;
     let mut at = 0;

@@ -40,7 +40,10 @@ fn counted(id: u32, mask: u32) -> u32
 // How many writes are refused. All are looked at, without a branch that depends on one of them, so that several go at once.
 fn count_wrong(ids: &[u32], masks: &[u32]) -> u32
     requires { ⌜ (length (now ids) ≡ length (now masks)) × (length (now ids) ≤ 4096) ⌝ }
-    ensures { λ r. ⌜ ((vs : List ℕ) → length (now (ids .entry)) ≡ length vs → r ≡ 0 → firstWrong 0 (writes (now (ids .entry)) (now (masks .entry)) vs) ≡ answered 0) ⌝ }
+    ensures { λ r. ⌜
+        ((vs : List ℕ) → length (now (ids .entry))
+        ≡ length vs → r ≡ 0 → firstWrong 0 (writes (now (ids .entry)) (now (masks .entry)) vs) ≡ answered 0)
+        ⌝ }
 {
     let mut count = 0;
     let mut i = 0;
@@ -54,7 +57,10 @@ fn count_wrong(ids: &[u32], masks: &[u32]) -> u32
 // Whether it is seen at once that no write is refused; a short run is searched as fast as it is counted.
 fn all_right(ids: &[u32], masks: &[u32]) -> bool
     requires { ⌜ (length (now ids) ≡ length (now masks)) × (length (now ids) ≤ 4096) ⌝ }
-    ensures { λ r. ⌜ ((vs : List ℕ) → length (now (ids .entry)) ≡ length vs → r ≡ true → firstWrong 0 (writes (now (ids .entry)) (now (masks .entry)) vs) ≡ answered 0) ⌝ }
+    ensures { λ r. ⌜
+        ((vs : List ℕ) → length (now (ids .entry))
+        ≡ length vs → r ≡ true → firstWrong 0 (writes (now (ids .entry)) (now (masks .entry)) vs) ≡ answered 0)
+        ⌝ }
 {
     if ids.len() < 16 {
         return false;
@@ -110,8 +116,15 @@ fn fill(
     extra: &mut [u8],
     space: &mut [u32],
 ) -> Packed
-    requires { ⌜ Given (now ids) (now masks) (now values) × (length (now ids) < length (now least)) × (length (now ids) ≤ length (now extra)) ⌝ }
-    ensures { λ r. ⌜ (told r ≡ ifRoom (packed (writes (now (ids .entry)) (now (masks .entry)) (now (values .entry)))) (length (now (space .entry)))) × (now (space .exit) ≡ spaceAfter (told r) (packed (writes (now (ids .entry)) (now (masks .entry)) (now (values .entry)))) (now (space .entry))) ⌝ }
+    requires { ⌜
+        Given (now ids) (now masks) (now values) × (length (now ids) < length (now least)) × (length (now ids) ≤ length (now extra))
+        ⌝ }
+    ensures { λ r. ⌜
+        (told r
+        ≡ ifRoom (packed (writes (now (ids .entry)) (now (masks .entry)) (now (values .entry)))) (length (now (space .entry))))
+        × (now (space .exit)
+        ≡ spaceAfter (told r) (packed (writes (now (ids .entry)) (now (masks .entry)) (now (values .entry)))) (now (space .entry)))
+        ⌝ }
 {
     let need = planning::plan_run(ids, masks, least, extra);
     if space.len() < need {
@@ -127,7 +140,10 @@ fn fill(
 // Packs writes into the start of the space and answers how many words it put there, or refuses: 7, 8, then each write in order for 9, 3, 4, 5
 // with its index, then 10 with the words needed. Space past what is written keeps its contents; on a refusal all of it does.
 pub fn pack(ids: &[u32], masks: &[u32], values: &[u32], space: &mut [u32]) -> Packed
-    ensures { λ r. ⌜ (told r ≡ packAnswer (now (ids .entry)) (now (masks .entry)) (now (values .entry)) (length (now (space .entry)))) × (now (space .exit) ≡ packSpace (now (ids .entry)) (now (masks .entry)) (now (values .entry)) (now (space .entry))) ⌝ }
+    ensures { λ r. ⌜
+        (told r ≡ packAnswer (now (ids .entry)) (now (masks .entry)) (now (values .entry)) (length (now (space .entry))))
+        × (now (space .exit) ≡ packSpace (now (ids .entry)) (now (masks .entry)) (now (values .entry)) (now (space .entry)))
+        ⌝ }
 {
     let checked = check(ids, masks, values);
     if let Checked::Refused(why) = checked {

@@ -129,8 +129,14 @@ fn choose(least: &[u16], i: usize, run: usize, last: usize, before: usize, words
 
 // Plans a run, whatever its values: answers its least words, and puts one fewer than the size of the first command from each write on into `extra`.
 pub fn plan_run(ids: &[u32], masks: &[u32], least: &mut [u16], extra: &mut [u8]) -> usize
-    requires { ⌜ (length (now ids) ≡ length (now masks)) × (length (now ids) ≤ 4096) × (length (now ids) < length (now least)) × (length (now ids) ≤ length (now extra)) ⌝ }
-    ensures { λ r. ⌜ ((vs : List ℕ) → length (now (ids .entry)) ≡ length vs → Planned (writes (now (ids .entry)) (now (masks .entry)) vs) r (now (extra .exit))) ⌝ }
+    requires { ⌜
+        (length (now ids) ≡ length (now masks)) × (length (now ids) ≤ 4096) × (length (now ids) < length (now least))
+        × (length (now ids) ≤ length (now extra))
+        ⌝ }
+    ensures { λ r. ⌜
+        ((vs : List ℕ) → length (now (ids .entry))
+        ≡ length vs → Planned (writes (now (ids .entry)) (now (masks .entry)) vs) r (now (extra .exit)))
+        ⌝ }
 {
     let mut i = ids.len();
     let mut need = 0;

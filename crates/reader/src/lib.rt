@@ -211,8 +211,9 @@ fn apply_list(cells: &mut [u32], fog: &mut [u32], light: &mut [u32], list: &[u32
     let held = registers::held::held_table();
     let mut at: usize = 0;
     while at < list.len() {
+        let h = list[at + 1];
         apply_at(cells, fog, light, &slots, &held, list, at);
-        at += words_taken(list[at + 1]);
+        at += words_taken(h);
     }
 }
 

@@ -29,36 +29,25 @@ held-table-requires c κs = search needs
 
 loop-holds : tie.Need-loop-holds Inv-loop μ-loop
 loop-holds c =
-    let at-start = c .before .before .before .before .before .before in
-    let a = at-start in
-    (search needs, search needs, search needs, search needs, sym (formed-of (a .args .list .now)) ∙ a .pre .3, refl)
+    let s = c .before .before .before .before .before .before in
+    (search needs, search needs, search needs, search needs, sym (formed-of (s .args .list .now)) ∙ s .pre .3, refl)
+
+add-h : tie.Need-add-h Inv-loop μ-loop
+add-h c = search needs
+
+mul-h : tie.Need-mul-h Inv-loop μ-loop
+mul-h c = search needs
+
+shared-slice-read-h : tie.Need-shared-slice-read-h Inv-loop μ-loop
+shared-slice-read-h c =
+    let o = c .before .before .loop in
+    omega (arith, full-next (c .before .before .before .before .before .before .before .before .before .args .list .now) (o .at) (c .before .loop-test .taken) (o .inv .4) .0)
 
 apply-at-requires : tie.Need-apply-at-requires Inv-loop μ-loop
 apply-at-requires c κs =
-    let at-loop-test = c .before .before .before .before .before in
-    let at-loop = at-loop-test .before in
-    let at-held-table = at-loop .before in
-    let at-slot-table = at-held-table .before in
-    let at-start = at-slot-table .before .before .before .before .before in
-    let a = at-start in
-    let i = at-loop .loop .inv in
-    let n = full-next (a .args .list .now) (at-loop .loop .at) (at-loop-test .loop-test .taken) (i .4) in
-    ((i .0, i .1, i .2, at-slot-table .slot-table .ensures, at-held-table .held-table .ensures), n .0)
-
-add-words-taken : tie.Need-add-words-taken Inv-loop μ-loop
-add-words-taken c = search needs
-
-mul-words-taken : tie.Need-mul-words-taken Inv-loop μ-loop
-mul-words-taken c = search needs
-
-shared-slice-read-words-taken : tie.Need-shared-slice-read-words-taken Inv-loop μ-loop
-shared-slice-read-words-taken c =
-    let at-loop-test = c .before .before .before .before .before .before .before .before .before .before .before .before .before in
-    let at-loop = at-loop-test .before in
-    let at-start = at-loop .before .before .before .before .before .before .before in
-    let a = at-start in
-    let n = full-next (a .args .list .now) (at-loop .loop .at) (at-loop-test .loop-test .taken) (at-loop .loop .inv .4) in
-    omega (arith, n .0)
+    let o = c .before .before .before .before .before .before .before .loop in
+    let n = full-next (c .before .before .before .before .before .before .before .before .before .before .before .before .before .before .args .list .now) (o .at) (c .before .before .before .before .before .before .loop-test .taken) (o .inv .4) in
+    ((o .inv .0, o .inv .1, o .inv .2, c .before .before .before .before .before .before .before .before .before .slot-table .ensures, c .before .before .before .before .before .before .before .before .held-table .ensures), n .0)
 
 words-taken-requires : tie.Need-words-taken-requires Inv-loop μ-loop
 words-taken-requires c κs = search needs
@@ -71,16 +60,11 @@ loop-less c = search needs
 
 loop-again : tie.Need-loop-again Inv-loop μ-loop
 loop-again c =
-    let at-apply-at = c .before .before .before .before .before .before .before .before in
-    let at-loop-test = at-apply-at .before .before .before .before .before .before in
-    let at-loop = at-loop-test .before in
-    let at-start = at-loop .before .before .before .before .before .before .before in
-    let a = at-start in
-    let l = a .args .list .now in
-    let o = at-loop .loop in
-    let t = at-loop-test .loop-test .taken in
+    let l = c .before .before .before .before .before .before .before .before .before .before .before .before .before .before .before .before .before .before .before .before .before .before .args .list .now in
+    let o = c .before .before .before .before .before .before .before .before .before .before .before .before .before .before .before .loop in
+    let t = c .before .before .before .before .before .before .before .before .before .before .before .before .before .before .loop-test .taken in
     let n = full-next l (o .at) t (o .inv .4) in
-    let p = at-apply-at .apply-at in
+    let p = c .before .before .before .before .before .before .before .apply-at in
     let e = c .words-taken .ensures .0 in (
       omega (arith, p .kept .0),
       omega (arith, p .kept .1 .0),
@@ -101,11 +85,8 @@ same-length-3 c = search needs
 
 returns : tie.Need-returns Inv-loop μ-loop
 returns c =
-    let at-loop = c .before in
-    let at-start = at-loop .before .before .before .before .before .before .before in
-    let a = at-start in
-    let l = a .args .list .now in
-    let o = at-loop .loop in
+    let l = c .before .before .before .before .before .before .before .before .args .list .now in
+    let o = c .before .loop in
     rw (expansion-of l) (sym (join-applied l (o .at) (st (o .cells) (o .fog) (o .light)) (c .loop-test .left)) ∙ o .inv .5)
 
 pub apply-list-spec : {M : Type 1} → statement M
@@ -117,10 +98,10 @@ apply-list-spec =
     slot-table-requires
     held-table-requires
     loop-holds
+    add-h
+    mul-h
+    shared-slice-read-h
     apply-at-requires
-    add-words-taken
-    mul-words-taken
-    shared-slice-read-words-taken
     words-taken-requires
     add-at
     loop-less
