@@ -41,8 +41,8 @@ fn counted(id: u32, mask: u32) -> u32
 fn count_wrong(ids: &[u32], masks: &[u32]) -> u32
     requires { ⌜ (length (now ids) ≡ length (now masks)) × (length (now ids) ≤ 4096) ⌝ }
     ensures { λ r. ⌜
-        ((vs : List ℕ) → length (now (ids .entry))
-        ≡ length vs → r ≡ 0 → firstWrong 0 (writes (now (ids .entry)) (now (masks .entry)) vs) ≡ answered 0)
+        ((vs : List ℕ) → length (now (ids .entry)) ≡ length vs → r ≡ 0
+        → firstWrong 0 (writes (now (ids .entry)) (now (masks .entry)) vs) ≡ answered 0)
         ⌝ }
 {
     let mut count = 0;
@@ -58,8 +58,8 @@ fn count_wrong(ids: &[u32], masks: &[u32]) -> u32
 fn all_right(ids: &[u32], masks: &[u32]) -> bool
     requires { ⌜ (length (now ids) ≡ length (now masks)) × (length (now ids) ≤ 4096) ⌝ }
     ensures { λ r. ⌜
-        ((vs : List ℕ) → length (now (ids .entry))
-        ≡ length vs → r ≡ true → firstWrong 0 (writes (now (ids .entry)) (now (masks .entry)) vs) ≡ answered 0)
+        ((vs : List ℕ) → length (now (ids .entry)) ≡ length vs → r ≡ true
+        → firstWrong 0 (writes (now (ids .entry)) (now (masks .entry)) vs) ≡ answered 0)
         ⌝ }
 {
     if ids.len() < 16 {

@@ -134,8 +134,8 @@ pub fn plan_run(ids: &[u32], masks: &[u32], least: &mut [u16], extra: &mut [u8])
         × (length (now ids) ≤ length (now extra))
         ⌝ }
     ensures { λ r. ⌜
-        ((vs : List ℕ) → length (now (ids .entry))
-        ≡ length vs → Planned (writes (now (ids .entry)) (now (masks .entry)) vs) r (now (extra .exit)))
+        ((vs : List ℕ) → length (now (ids .entry)) ≡ length vs
+        → Planned (writes (now (ids .entry)) (now (masks .entry)) vs) r (now (extra .exit)))
         ⌝ }
 {
     let mut i = ids.len();
