@@ -4,7 +4,9 @@ use mathlib.Core.Bool.{Bool, true, false}
 use mathlib.Core.List.{List}
 use Prim.Native.Nat.{ℕ, _/_, _%_, _^_, _≤_}
 use lib.Dec.{eqb}
+use native.Mathlib.Omega.{arith}
 use lib.ListN.{getD, set, List·getD-eq-default}
+use lib.Seq.{getD-set-other, set-getD}
 use borrow.Author.Tests.{eqb-true}
 use Rattle.numbers.specs.Pick.{pick}
 use Rattle.settings.specs.Ranges.{bits}
@@ -82,6 +84,15 @@ step-table ws s k rgb alpha buffer result ek eb er =
       colours-at ws 15,
       colours-at ws 13,
     )
+
+-- the same after a stage that has no bit of E0: the buffer stays
+same-buffer : (ws : List ℕ) (k : ℕ) → set (set ws 14 k) 13 (getD ws 13 0) ≡ set ws 14 k
+same-buffer ws k = rw (getD-set-other ws 14 13 k 0 (λ e. omega arith)) at (set-getD (set ws 14 k) 13 0)
+
+pub step-table-0 : (ws : List ℕ) (s : Stage) (k result : ℕ) → unpacked k ≡ s .colour → unpacked result ≡ fromTable s (colours (set ws 14 k))
+    → colours (set (set ws 14 k) 15 result) ≡ tableAfter s 0 0 (colours ws)
+unfolding unpacked
+step-table-0 ws s k result ek er = rw (same-buffer ws k) at (step-table ws s k 0 0 (getD ws 13 0) result ek refl er)
 
 picked : (s t : Bool) (previous buffer : ℕ)
     → joined (rgbIn (pick s previous buffer)) (unpacked (pick t previous buffer) .alpha)

@@ -59,22 +59,15 @@ fn step(cells: &[u32], b: usize, rgb: u32, alpha: u32, table: &mut [u32; 16])
     table[15] = result;
 }
 
-// Stage 0, as `step` would. It isn't looked at for being idle: in nearly every state it works.
+// Stage 0, as `step` would. E0 has no bit for it, so the buffer stays; and it isn't looked at for being idle: in nearly every state it works.
 fn first_step(cells: &[u32], table: &mut [u32; 16])
     requires { ⌜ length (now cells) ≡ 768 ⌝ }
     ensures { λ _. ⌜
         colours (now (table .exit)) ≡ tableAfter (stageIn (inCells (now (cells .entry))) 0xC0) 0 0 (colours (now (table .entry)))
         ⌝ }
 {
-    let source = cells[0xC0];
-    let operand = cells[0xC1];
-    let combiner = cells[0xC2];
-    let scale = cells[0xC4];
-    let previous = table[15];
-    let buffer = table[13];
     table[14] = cells[0xC3];
-    let result = stage::run_stage(table, source, operand, combiner, scale);
-    table[13] = buffer_after(0, 0, previous, buffer);
+    let result = stage::run_stage(table, cells[0xC0], cells[0xC1], cells[0xC2], cells[0xC4]);
     table[15] = result;
 }
 
