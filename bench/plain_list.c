@@ -78,7 +78,7 @@ static inline void upload(uint32_t *restrict entries, uint32_t size, uint32_t *i
     }
 }
 
-/* The index is in a register, and stored once. */
+/* The index is in a register, and stored at the end. */
 static inline void upload_fog(uint32_t *restrict cells, uint32_t *restrict fog, const uint32_t *restrict values, uint32_t count) {
     uint32_t index = cells[0xE6] & 0x7F;
     upload(fog, 128, &index, values, count);

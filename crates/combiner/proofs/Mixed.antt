@@ -85,10 +85,10 @@ step-table ws s k rgb alpha buffer result ek eb er =
       colours-at ws 13,
     )
 
--- the same after a stage that has no bit of E0: the buffer stays
 same-buffer : (ws : List ℕ) (k : ℕ) → set (set ws 14 k) 13 (getD ws 13 0) ≡ set ws 14 k
 same-buffer ws k = rw (getD-set-other ws 14 13 k 0 (λ e. omega arith)) at (set-getD (set ws 14 k) 13 0)
 
+-- the same after a stage that has no bit of E0: the buffer stays
 pub step-table-0 : (ws : List ℕ) (s : Stage) (k result : ℕ) → unpacked k ≡ s .colour → unpacked result ≡ fromTable s (colours (set ws 14 k))
     → colours (set (set ws 14 k) 15 result) ≡ tableAfter s 0 0 (colours ws)
 unfolding unpacked

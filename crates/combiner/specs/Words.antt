@@ -83,7 +83,7 @@ ownAlpha mode o from dot =
     (alphaOperand (o .alpha2) (from .alpha2))
     dot
 
--- a stage that hands on Previous as it is: replace by source Previous, its own channels, scale 1; the state after a reset
+-- a stage that hands on Previous as it is: replace by source Previous, its own channels, scale 1
 abbrev pub idle : Stage → Bool
 idle s =
     eqb (s .source .rgb0) 15 && eqb (s .source .alpha0) 15

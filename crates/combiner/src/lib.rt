@@ -1,7 +1,7 @@
-// The combiner: six stages, each of which may read what the stages before it gave. The contract of `combine` cites specs/Chain.antt, by
-// the registers of the cells. Nothing is decoded first: each register is read where it is used. The sixteen colours that a source code
-// can name are kept as words in one array, in which a stage changes three; specs/Words.antt says how words and array stand for the
-// document's colours.
+// The combiner: six stages, each of which may read what the stages before it gave. The contract of `combine` cites specs/Words.antt:
+// the result of specs/Chain.antt, by the registers of the cells. Nothing is decoded first: each register is read where it is used. The
+// sixteen colours that a source code can name are kept as words in one array, in which a stage changes at most three; specs/Words.antt says
+// how words and array stand for the document's colours.
 ghost use mathlib.Core.Path.{_≡_};
 ghost use Prim.Native.Nat.{_<_};
 ghost use lib.ListN.{length, getD};
@@ -59,7 +59,8 @@ fn step(cells: &[u32], b: usize, rgb: u32, alpha: u32, table: &mut [u32; 16])
     table[15] = result;
 }
 
-// Stage 0, as `step` would. E0 has no bit for it, so the buffer stays; and it isn't looked at for being idle: in nearly every state it works.
+// Stage 0, as `step` would. E0 has no bit for it, so the buffer stays; and it isn't looked at for being idle: a state that uses any stage
+// uses this one.
 fn first_step(cells: &[u32], table: &mut [u32; 16])
     requires { ⌜ length (now cells) ≡ 768 ⌝ }
     ensures { λ _. ⌜

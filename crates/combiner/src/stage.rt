@@ -68,7 +68,7 @@ pub fn run_stage(table: &[u32; 16], source: u32, operand: u32, combiner: u32, sc
     finish(scale, mixed, alpha)
 }
 
-// Previous is handed on as it is, by every stage that a program leaves as a reset does.
+// Previous is handed on as it is: what a state sets in a stage that it doesn't use.
 fn is_idle(source: u32, operand: u32, combiner: u32, scale: u32) -> bool
     ensures { λ r. ⌜ r ≡ idle (stageFrom source operand combiner scale) ⌝ }
 {

@@ -12,7 +12,7 @@ use Rattle.runs.specs.Span.{span}
 use Rattle.planning.specs.declared.Choice.{Choice}
 
 -- THE CODE'S CHOICE where a command can carry n writes, `last` are the words of what is left after them and `before` after n - 1 of them: one fewer
--- where n is even and what is left takes less than two words more without the last of them (law `ends-chose`)
+-- where n is even and what is left takes less than two words more with the last of them in it (law `ends-chose`)
 abbrev pub sizeBy : ℕ → ℕ → ℕ → ℕ
 sizeBy n last before = pick (eqb (n % 2) 0 && ltb before (last + 2)) (n - 1) n
 

@@ -142,7 +142,7 @@ fn risen256_by(x: u32, k: u32) -> u32
     x / 256 * 256 + (x % 256 + k) % 256
 }
 
-// The words of `list` from `from` on, written to the fog port's data one after another.
+// `count` words of `list`, from `from` on, written to the fog port's data one after another.
 pub fn upload_fog(cells: &mut [u32], fog: &mut [u32], list: &[u32], from: usize, count: u32)
     requires { ⌜ (length (now cells) ≡ 768) × (length (now fog) ≡ 128) × (from + count ≤ length (now list)) × (count < 256) ⌝ }
     ensures { λ _. ⌜

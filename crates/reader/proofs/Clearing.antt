@@ -1,11 +1,11 @@
 -- A command whose ids are clear of all that is refused has no write at fault. Assumes nothing.
-use mathlib.Core.Path.{_≡_, refl, sym, _∙_}
+use mathlib.Core.Path.{_≡_, refl}
 use mathlib.Core.Bool.{Bool, true, false, not, _&&_, _||_, and-false}
-use Prim.Native.Nat.{ℕ, zero, suc, _+_, _≤_, _<_}
+use Prim.Native.Nat.{ℕ, _≤_, _<_}
 use native.Mathlib.Omega.{arith}
 use lib.Dec.{leb, ltb, eqb}
 use borrow.Author.Tests.{leb-true, ltb-true, lt-leb, le-ltb, ne-eqb}
-use Rattle.numbers.specs.Pick.{pick, within}
+use Rattle.numbers.specs.Pick.{within}
 use Rattle.numbers.proofs.Tests.{and-true}
 use Rattle.words.specs.Writes.{jumps, portData, faultOf}
 use Rattle.reader.specs.Clear.{clear}

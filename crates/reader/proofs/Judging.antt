@@ -1,19 +1,19 @@
 -- The verdict, command by command and write by write, by the tests that code makes. Assumes nothing.
-use mathlib.Core.Path.{_≡_, refl, sym, ap, _∙_}
+use mathlib.Core.Path.{_≡_, refl, sym, _∙_}
 use mathlib.Core.Bool.{Bool, true, false}
 use mathlib.Core.List.{List, [], _∷_}
 use Prim.Native.Nat.{ℕ, zero, suc, _+_, _-_, _≤_, _<_}
 use native.Mathlib.Omega.{arith}
 use lib.Dec.{eqb}
 use lib.ListN.{length}
-use borrow.Author.Tests.{eq-eqb, ne-eqb, le-leb, lt-leb, eqb-true}
+use borrow.Author.Tests.{ne-eqb, le-leb, lt-leb, eqb-true}
 use Rattle.numbers.specs.Pick.{pick}
 use Rattle.numbers.specs.Answer.{Answer, answered, refused}
 use Rattle.words.specs.Header.{idOf, maskOf, countOf, stepOf, wordsOf}
-use Rattle.words.specs.Writes.{Write, writing, faultOf}
-use Rattle.words.specs.Commands.{headerAt, paramAt, whole, run, expand, commands}
+use Rattle.words.specs.Writes.{Write, faultOf}
+use Rattle.words.specs.Commands.{headerAt, run, expand, commands}
 use Rattle.words.proofs.Laws.{commands-end, commands-step, run-done, run-next, run-length}
-use Rattle.reader.specs.Verdict.{firstFault, commandFault, unlessFault, judge, verdict}
+use Rattle.reader.specs.Verdict.{firstFault, unlessFault, judge, verdict}
 use Rattle.reader.specs.Clear.{lastId, clear}
 use Rattle.reader.proofs.Clearing.{clear-fault}
 use Rattle.reader.proofs.Accepted.{judge-none, judge-more}
@@ -53,7 +53,7 @@ module _ (l : List ℕ) (at : ℕ) where
   pub run-bad : (n k i : ℕ) → 0 < n → (faultOf i (maskOf h) ≡ 0 → ⊥) → firstFault (run l at n k i) ≡ faultOf i (maskOf h)
   run-bad n k i p z = rw (run-next l at n k i p) (first-bad _ _ z)
 
-  -- writes to one id are at fault all or none
+  -- writes to one id are none at fault where the first isn't
   same-none : (n k i : ℕ) → stepOf h ≡ 0 → faultOf i (maskOf h) ≡ 0 → firstFault (run l at n k i) ≡ 0
   same-none zero k i s z = run-none 0 k i (omega arith)
   same-none (suc n) k i s z =

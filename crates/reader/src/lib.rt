@@ -1,4 +1,5 @@
-// A list read into a state: judged whole, and then applied. The contracts cite specs/Verdict.antt and specs/Read.antt.
+// A list read into a state: judged whole, and then applied. The contracts cite specs/Verdict.antt and specs/Read.antt, and for the code's own
+// steps specs/Clear.antt and specs/ToOne.antt.
 ghost use mathlib.Core.Path.{_≡_};
 ghost use mathlib.Core.Bool.{true};
 ghost use mathlib.Core.List.{List};

@@ -7,7 +7,7 @@ use Prim.Native.Nat.{ℕ, _+_, _*_, _%_, _<_, _≤_}
 use native.Mathlib.Decide.{decLt}
 use native.Mathlib.Omega.{arith}
 use lib.Dec.{eqb, ltb}
-use lib.ListN.{length, getD, replicate, length-replicate}
+use lib.ListN.{getD, replicate, length-replicate}
 use borrow.Author.Tests.{eq-eqb, ne-eqb, ltb-true, eqb-true, not-true}
 use Rattle.numbers.specs.Pick.{pick}
 use Rattle.numbers.proofs.Tests.{is-true, and-true}

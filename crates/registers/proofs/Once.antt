@@ -1,17 +1,16 @@
 -- The promise of each function that another crate can call settles its calls: any two answers that it allows, with what is then in the lent
 -- buffers, are equal. Assumes nothing.
-use mathlib.Core.Path.{_≡_, refl, ap, sym, _∙_}
+use mathlib.Core.Path.{_≡_, refl, ap}
 use Prim.Native.Nat.{ℕ}
 use native.Mathlib.Omega.{arith}
 use contract.Lifetimes.{Lfts}
 use borrow.Fn.Kinds.{Dens}
 use denote.Ref.{now}
-use Rattle.numbers.specs.Answer.{Answer, answered, refused}
 use Rattle.numbers.specs.Settled.{Settles, settled}
 use Rattle.words.specs.Writes.{writing}
 use Rattle.words.proofs.Once.{refusal-one}
 use Rattle.registers.specs.Held.{bitsOf}
-use Rattle.registers.specs.State.{State, st, sized}
+use Rattle.registers.specs.State.{st, sized}
 use Rattle.registers.specs.Tables.{slotTable, heldTable}
 use Rattle.registers.specs.Applied.{put}
 use Rattle.registers.specs.Single.{told, writeAnswer, writeState}

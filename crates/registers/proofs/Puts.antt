@@ -1,7 +1,6 @@
 -- What one write does, case by case, by the tests that code makes. Assumes nothing.
-use mathlib.Core.Path.{_≡_, refl}
+use mathlib.Core.Path.{_≡_}
 use mathlib.Core.Bool.{true, false}
-use mathlib.Core.List.{List}
 use Prim.Native.Nat.{ℕ}
 use lib.Bits.{bitAnd}
 use lib.ListN.{getD, set}

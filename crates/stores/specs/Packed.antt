@@ -1,4 +1,4 @@
--- A colour as one word, as a colour register holds it.
+-- A colour as one word, as a colour register holds it. Not of the document.
 use Prim.Native.Nat.{ℕ, _+_, _*_}
 use Rattle.settings.specs.declared.records.Colour.{Colour}
 

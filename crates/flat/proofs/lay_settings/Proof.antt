@@ -15,19 +15,15 @@ use Rattle.flat.proofs.lay_to_1c5.Reads as lay-to-1c5-reads
 use Rattle.flat.proofs.lay_to_dc.Reads as lay-to-dc-reads
 use Rattle.flat.proofs.lay_to_fd.Reads as lay-to-fd-reads
 
--- src/lib.rt:255:5
 lay-to-dc-requires : tie.Need-lay-to-dc-requires
 lay-to-dc-requires c κs = search needs
 
--- src/lib.rt:256:5
 lay-to-fd-requires : tie.Need-lay-to-fd-requires
 lay-to-fd-requires c κs = search needs
 
--- src/lib.rt:257:5
 lay-to-1c5-requires : tie.Need-lay-to-1c5-requires
 lay-to-1c5-requires c κs = search needs
 
--- src/lib.rt:250:1
 returns : tie.Need-returns
 unfolding flat
 returns c =

@@ -1,4 +1,5 @@
--- The first two words stand before the loop, and m + 1 words in it; the padding word is the last. Assumes nothing.
+-- The first two words stand before the loop, and m + 1 words in it; the padding word is the last. A short command's words are as
+-- `put_short` ensures. Assumes nothing.
 use mathlib.Core.Path.{_≡_, refl, sym, ap, _∙_}
 use mathlib.Core.List.{List}
 use Prim.Native.Nat.{ℕ, _+_, _-_, _≤_}

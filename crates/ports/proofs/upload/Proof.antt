@@ -1,10 +1,10 @@
 -- The invariant: what is left to upload leads from here to what all of it leads to. Assumes nothing.
-use mathlib.Core.Path.{_≡_, refl, sym, _∙_}
-use Prim.Native.Nat.{_+_, _-_, _≤_, _<_, min}
+use mathlib.Core.Path.{_≡_, sym, _∙_}
+use Prim.Native.Nat.{_+_, _-_, _≤_, _<_}
 use native.Mathlib.Omega.{arith}
 use borrow.Author.Needs.{needs}
 use lib.ListN.{length}
-use Rattle.ports.specs.Uploads.{filled, wrapped, uploaded}
+use Rattle.ports.specs.Uploads.{uploaded}
 use Rattle.ports.proofs.Uploads.{uploaded-done, uploaded-stretch, wrapped-within}
 use Rattle.ports.proofs.upload.Statement.{statement}
 use Rattle.ports.proofs.upload.Tie as tie

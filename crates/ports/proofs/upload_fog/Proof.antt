@@ -1,3 +1,4 @@
+-- As the calls ensure. Assumes nothing.
 use borrow.Author.Needs.{needs}
 use Rattle.ports.proofs.upload_fog.Statement.{statement}
 use Rattle.ports.proofs.upload_fog.Tie as tie

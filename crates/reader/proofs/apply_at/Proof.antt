@@ -1,6 +1,5 @@
 -- Each way out is one kind of command. Assumes nothing.
-use mathlib.Core.Path.{_≡_, sym}
-use Prim.Native.Nat.{_<_}
+use mathlib.Core.Path.{sym}
 use native.Mathlib.Omega.{arith}
 use Rattle.reader.proofs.Uploads.{fog-command, light-command}
 use borrow.Author.Needs.{needs}

@@ -1,10 +1,10 @@
 -- The invariant: what is left of the command leads from here to the state that all of it leads to, and its next value stands at j. Assumes nothing.
-use mathlib.Core.Path.{_≡_, refl, sym, _∙_}
+use mathlib.Core.Path.{_≡_, sym, _∙_}
 use Prim.Native.Nat.{_+_, _-_, _≤_, _<_}
 use native.Mathlib.Omega.{arith}
 use borrow.Author.Needs.{needs}
 use lib.ListN.{length, getD}
-use Rattle.words.specs.Header.{idOf, countOf, stepOf}
+use Rattle.words.specs.Header.{countOf, stepOf}
 use Rattle.words.specs.Commands.{headerAt, paramAt, run, expand}
 use Rattle.registers.specs.State.{st}
 use Rattle.registers.specs.Applied.{applyAll}

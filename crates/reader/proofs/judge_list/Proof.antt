@@ -1,12 +1,10 @@
 -- Two invariants: what is left of the list has the list's verdict, and what is left of a command has the command's fault. Assumes nothing.
-use mathlib.Core.Path.{_≡_, refl, sym, ap, _∙_}
+use mathlib.Core.Path.{_≡_, sym, _∙_}
 use Prim.Native.Nat.{_+_, _-_, _≤_, _<_}
 use native.Mathlib.Omega.{arith}
 use borrow.Author.Needs.{needs}
-use lib.Dec.{eqb}
 use lib.ListN.{length}
-use Rattle.numbers.specs.Pick.{pick}
-use Rattle.words.specs.Header.{idOf, maskOf, countOf, stepOf, wordsOf}
+use Rattle.words.specs.Header.{maskOf}
 use Rattle.words.specs.Writes.{faultOf}
 use Rattle.words.specs.Commands.{headerAt, run, expand, commands}
 use Rattle.words.proofs.Heads.{Whole, whole-of, short-of}
@@ -15,11 +13,6 @@ use Rattle.reader.specs.Clear.{lastId, clear}
 use Rattle.reader.proofs.Judging.{deciding-most, run-none, run-good, run-bad, deciding-fault, judge-end, judge-short, judge-fault, judge-pass, verdict-of}
 use Rattle.reader.proofs.judge_list.Statement.{statement}
 use Rattle.reader.proofs.judge_list.Tie as tie
-use Rattle.reader.proofs.judge_list.Reads as reads
-use Rattle.reader.proofs.judge_list.Lts as lts
-use Rattle.reader.proofs.deciding.Reads as deciding-reads
-use Rattle.words.proofs.fault.Reads as fault-reads
-use Rattle.words.proofs.head_at.Reads as head-at-reads
 
 abbrev Inv-loop : tie.InvT-loop
 Inv-loop list at n h id₀ left₀ id left =
@@ -42,25 +35,20 @@ commands-holds : tie.Need-commands-holds Inv-loop μ-loop Inv-commands μ-comman
 commands-holds c =
     (search needs, search needs, sym (verdict-of (c .before .args .list .now)))
 
--- src/lib.rt:45:30
 head-at-requires : tie.Need-head-at-requires Inv-loop μ-loop Inv-commands μ-commands
 head-at-requires c κs = search needs
 
--- src/lib.rt:45:25
 enum-known-h : tie.Need-enum-known-h Inv-loop μ-loop Inv-commands μ-commands
 enum-known-h c = search needs
 
--- src/lib.rt:46:46
 enum-told : tie.Need-enum-told Inv-loop μ-loop Inv-commands μ-commands
 enum-told c = search needs
 
--- src/lib.rt:52:13
 deciding-requires : tie.Need-deciding-requires Inv-loop μ-loop Inv-commands μ-commands
 deciding-requires c κs =
     let at-h = c .before in
     let w = known at-h in omega arith
 
--- src/lib.rt:53:9
 loop-holds : tie.Need-loop-holds Inv-loop μ-loop Inv-commands μ-commands
 loop-holds c =
     let at-h = c .before .before in
@@ -75,25 +63,20 @@ loop-holds c =
     let m : c .deciding .result ≤ h .count + 1 = rw d (deciding-most (clear (h .id) (lastId (h .id) (h .count) (h .step)) (h .mask)) (h .count)) in
     (m, omega arith, rw (z, d, w .step, w .count, w .id, w .mask) (sym (deciding-fault l at)), omega arith)
 
--- src/lib.rt:54:17
 fault-requires : tie.Need-fault-requires Inv-loop μ-loop Inv-commands μ-commands
 fault-requires c κs = search needs
 
--- src/lib.rt:61:13
 add-id : tie.Need-add-id Inv-loop μ-loop Inv-commands μ-commands
 add-id c =
     let at-h = c .before .before .before .before .before .before .before in
     let w = known at-h in omega arith
 
--- src/lib.rt:62:13
 sub-left : tie.Need-sub-left Inv-loop μ-loop Inv-commands μ-commands
 sub-left c = search needs
 
--- src/lib.rt:53:9
 loop-less : tie.Need-loop-less Inv-loop μ-loop Inv-commands μ-commands
 loop-less c = search needs
 
--- src/lib.rt:53:9
 loop-again : tie.Need-loop-again Inv-loop μ-loop Inv-commands μ-commands
 loop-again c =
     let at-if2 = c .before in
@@ -114,61 +97,51 @@ loop-again c =
     let f : faultOf (o .loop .id) (maskOf (headerAt l at)) ≡ 0 = cc (w .mask, at-fault .fault .ensures, at-if2 .if2 .left) in
     (omega arith, omega arith, rw (k, w .step) (sym (run-good l at left _ (o .loop .id) t f) ∙ o .loop .inv .2), omega arith)
 
--- src/lib.rt:64:15
 add-n : tie.Need-add-n Inv-loop μ-loop Inv-commands μ-commands
 add-n c =
     let at-h = c .before .before .before .before .before in
     let w = known at-h in omega arith
 
--- src/lib.rt:64:14
 cast-n : tie.Need-cast-n Inv-loop μ-loop Inv-commands μ-commands
 cast-n c =
     let at-h = c .before .before .before .before .before in
     let w = known at-h in omega arith
 
--- src/lib.rt:64:9
 add-n-2 : tie.Need-add-n-2 Inv-loop μ-loop Inv-commands μ-commands
 add-n-2 c =
     let at-h = c .before .before .before .before .before in
     let w = known at-h in omega arith
 
--- src/lib.rt:65:16
 add-at : tie.Need-add-at Inv-loop μ-loop Inv-commands μ-commands
 add-at c =
     let at-h = c .before .before .before .before .before .before in
     let w = known at-h in omega arith
 
--- src/lib.rt:65:31
 add-at-2 : tie.Need-add-at-2 Inv-loop μ-loop Inv-commands μ-commands
 add-at-2 c =
     let at-h = c .before .before .before .before .before .before .before in
     let w = known at-h in omega arith
 
--- src/lib.rt:65:16
 add-at-3 : tie.Need-add-at-3 Inv-loop μ-loop Inv-commands μ-commands
 add-at-3 c =
     let at-h = c .before .before .before .before .before .before .before in
     let w = known at-h in omega arith
 
--- src/lib.rt:65:15
 cast-at : tie.Need-cast-at Inv-loop μ-loop Inv-commands μ-commands
 cast-at c =
     let at-h = c .before .before .before .before .before .before .before in
     let w = known at-h in omega arith
 
--- src/lib.rt:65:9
 add-at-4 : tie.Need-add-at-4 Inv-loop μ-loop Inv-commands μ-commands
 add-at-4 c =
     let at-h = c .before .before .before .before .before .before .before in
     let w = known at-h in omega arith
 
--- src/lib.rt:41:5
 commands-less : tie.Need-commands-less Inv-loop μ-loop Inv-commands μ-commands
 commands-less c =
     let at-h = c .before .before .before .before .before .before .before in
     let w = known at-h in omega arith
 
--- src/lib.rt:41:5
 commands-again : tie.Need-commands-again Inv-loop μ-loop Inv-commands μ-commands
 commands-again c =
     let at-loop-test = c .before .before .before in
@@ -184,7 +157,6 @@ commands-again c =
     let e : firstFault (expand l at) ≡ 0 = sym (o .loop .inv .2) ∙ run-none l at (o .loop .left) _ (o .loop .id) (at-loop-test .loop-test .left) in
     (omega arith, omega arith, rw (w .count) (sym (judge-pass l at (at-commands .commands .n) (at-if1 .if1 .left) (w .fits) e) ∙ at-commands .commands .inv .2))
 
--- src/lib.rt:36:1
 returns : tie.Need-returns Inv-loop μ-loop Inv-commands μ-commands
 returns c =
     let at-commands = c .before in
@@ -192,7 +164,6 @@ returns c =
     let l = at-start .args .list .now in
     sym (judge-end l (at-commands .commands .at) (at-commands .commands .n) (c .if1 .taken)) ∙ at-commands .commands .inv .2
 
--- src/lib.rt:36:1
 returns-2 : tie.Need-returns-2 Inv-loop μ-loop Inv-commands μ-commands
 returns-2 c =
     let at-head-at = c .before .before in
@@ -204,7 +175,6 @@ returns-2 c =
     let s = short-of l at _ (sym (at-head-at .head-at .ensures) ∙ c .enum-told .given .1) in
     sym (judge-short l at (at-commands .commands .n) (at-if1 .if1 .left) s) ∙ at-commands .commands .inv .2
 
--- src/lib.rt:36:1
 returns-3 : tie.Need-returns-3 Inv-loop μ-loop Inv-commands μ-commands
 returns-3 c =
     let at-fault = c .before in

@@ -1,19 +1,15 @@
+-- By the step. Assumes nothing.
 use borrow.Author.Tests.{eq-eqb, ne-eqb}
 use borrow.Author.Needs.{needs}
 use Rattle.reader.proofs.last_id.Statement.{statement}
 use Rattle.reader.proofs.last_id.Tie as tie
-use Rattle.reader.proofs.last_id.Reads as reads
-use Rattle.reader.proofs.last_id.Lts as lts
 
--- src/lib.rt:28:32
 add-result : tie.Need-add-result
 add-result c = search needs
 
--- src/lib.rt:24:1
 returns : tie.Need-returns
 returns c = rw (eq-eqb _ _ (c .if1 .taken))
 
--- src/lib.rt:24:1
 returns-2 : tie.Need-returns-2
 returns-2 c = rw (ne-eqb _ _ (c .if1 .left))
 

@@ -1,6 +1,5 @@
 -- Each way out is one case of `put`. Assumes nothing.
 use mathlib.Core.Path.{_≡_, sym, _∙_}
-use Prim.Native.Nat.{_<_}
 use native.Mathlib.Omega.{arith}
 use Rattle.registers.specs.Held.{bitsOf}
 use Rattle.registers.proofs.Lookup.{Has, held-has}
