@@ -59,8 +59,8 @@ fn step(cells: &[u32], b: usize, rgb: u32, alpha: u32, table: &mut [u32; 16])
     table[15] = result;
 }
 
-// Stage 0, as `step` would. E0 has no bit for it, so the buffer stays; and it isn't looked at for being idle: a state that uses any stage
-// uses this one.
+// Stage 0, as `step` would. E0 has no bit for it, so the buffer stays; and it isn't looked at for being idle: then it would hand on
+// zero, which few states ask of it.
 fn first_step(cells: &[u32], table: &mut [u32; 16])
     requires { ⌜ length (now cells) ≡ 768 ⌝ }
     ensures { λ _. ⌜
