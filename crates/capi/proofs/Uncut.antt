@@ -8,22 +8,23 @@ use lib.Dec.{ltb, leb, eqb}
 use lib.ListN.{length}
 use borrow.Author.Tests.{ltb-true, leb-true, eqb-true}
 use Rattle.numbers.specs.Pick.{pick}
-use Rattle.numbers.specs.Answer.{Answer, answered, refused}
+use Rattle.numbers.specs.Answer.{Answer, answered, refused, unlessFault}
 use Rattle.numbers.proofs.Tests.{and-true}
+use Rattle.numbers.proofs.Picks.{pick-either}
 use Rattle.words.specs.Header.{countOf, wordsOf}
 use Rattle.words.specs.Writes.{Write}
 use Rattle.words.specs.Commands.{headerAt, whole, expand, places, commands}
 use Rattle.words.proofs.Laws.{run-length}
 use Rattle.registers.specs.State.{State, sized}
 use Rattle.registers.specs.Single.{atZero, refusalOf, writeAnswer}
-use Rattle.reader.specs.Verdict.{firstFault, commandFault, unlessFault, judge, verdict}
+use Rattle.reader.specs.ListVerdict.{firstFault, commandFault, judge, verdict}
 use Rattle.reader.specs.Read.{readAnswer}
-use Rattle.runs.specs.Packed.{writes, packed}
-use Rattle.runs.proofs.Packed.{packed-short}
+use Rattle.runs.specs.PackedList.{writes, packed}
+use Rattle.runs.proofs.PackedList.{packed-short}
 use Rattle.runs.proofs.Writes.{writes-length}
-use Rattle.packer.specs.Given.{wrong, firstWrong, checkAnswer}
+use Rattle.packer.specs.Checks.{wrong, firstWrong, checkAnswer}
 use Rattle.packer.specs.Packing.{ifRoom, andThen, packAnswer}
-use Rattle.packer.proofs.Given.{check-given}
+use Rattle.packer.proofs.Checks.{check-given}
 use Rattle.decode.specs.Codes.{Check, stageChecks, frameChecks, checks, firstOf, lowest}
 use Rattle.decode.specs.Decoded.{settingsOf, namelessId, refusal, decodedOf}
 use Rattle.settings.specs.declared.records.Settings.{Settings}
@@ -149,15 +150,12 @@ all-below : ℕ → List Check → Bool
 all-below n [] = true
 all-below n (c ∷ cs) = leb (c .id) n && all-below n cs
 
-pick-below : (b : Bool) (x y n : ℕ) → x ≤ n → y ≤ n → pick b x y ≤ n
-pick-below true x y n h g = h
-pick-below false x y n h g = g
-
 first-below : (n rest : ℕ) (cs : List Check) → all-below n cs ≡ true → rest ≤ n → firstOf cs rest ≤ n
 unfolding firstOf all-below
 first-below n rest [] e h = h
 first-below n rest (c ∷ cs) e h =
-    let g = and-true (leb (c .id) n) (all-below n cs) e in pick-below (c .lacks) (c .id) (firstOf cs rest) n (leb-true _ _ (g .0)) (first-below n rest cs (g .1) h)
+    let g = and-true (leb (c .id) n) (all-below n cs) e in
+    pick-either (λ x. x ≤ n) (c .lacks) (leb-true _ _ (g .0)) (first-below n rest cs (g .1) h)
 
 lowest-below : (s : Settings) → lowest (checks s) ≤ 0x117
 unfolding checks stageChecks frameChecks all-below
@@ -190,9 +188,9 @@ verdict-below verdicts.Passes = omega arith
 unbuilt-below : (s : Settings) → unbuiltId s ≤ 0x117
 unfolding unbuiltId
 unbuilt-below s =
-    pick-below (fogUnbuilt (s .«buffer_fog» .update)) 0xE0 _ 0x117 (omega arith)
-    (pick-below (operationUnbuilt (s .framebuffer .blending .operation)) 0x100 _ 0x117 (omega arith)
-    (pick-below (formatUnbuilt (s .framebuffer .buffers .«colour_format»)) 0x117 0 0x117 (omega arith) (omega arith)))
+    pick-either (λ x. x ≤ 0x117) (fogUnbuilt (s .«buffer_fog» .update)) (omega arith)
+    (pick-either (λ x. x ≤ 0x117) (operationUnbuilt (s .framebuffer .blending .operation)) (omega arith)
+    (pick-either (λ x. x ≤ 0x117) (formatUnbuilt (s .framebuffer .buffers .«colour_format»)) (omega arith) (omega arith)))
 
 by-depth : (s : Settings) (g : Given) (incoming : ℕ) (stored : Stored) (a b c : Bool)
     → drawnValue (pick a (pick b (cuts.refusal 12 0) (pick c (cuts.refusal 12 1) (drawn.Done (outcomeOf s g incoming stored)))) (cuts.refusal 14 (unbuiltId s))) ≤ 0x117

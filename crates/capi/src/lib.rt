@@ -13,9 +13,9 @@ ghost use Rattle.capi.specs.Calls.{call, answer, decodeCall, fieldsAfter
 use decode::Decoded;
 use fragment::Drawn;
 use packer::Packed;
-use reader::Verdict;
+use reader::ListVerdict;
 use registers::Written;
-use stores::Verdict as Outcome;
+use stores::Verdict;
 use words::Refusal;
 
 mod colours;
@@ -39,8 +39,8 @@ pub extern "C" fn pica_read(
     ensures state { λ _. ⌜ st (now (cells .exit)) (now (fog .exit)) (now (light .exit)) ≡ readState (st (now (cells .entry)) (now (fog .entry)) (now (light .entry))) (now (list .entry)) ⌝ }
 {
     match reader::read(cells, fog, light, list) {
-        Verdict::Accepted(n) => told(0, n),
-        Verdict::Refused(why) => told(why.number, why.place),
+        ListVerdict::Accepted(n) => told(0, n),
+        ListVerdict::Refused(why) => told(why.number, why.place),
     }
 }
 
@@ -93,14 +93,14 @@ pub extern "C" fn pica_decode(
     }
 }
 
-fn verdict_number(v: Outcome) -> usize
+fn verdict_number(v: Verdict) -> usize
     ensures { λ r. ⌜ r ≡ verdictNumber v ⌝ }
 {
     match v {
-        Outcome::AlphaFails => 0,
-        Outcome::StencilFails => 1,
-        Outcome::DepthFails => 2,
-        Outcome::Passes => 3,
+        Verdict::AlphaFails => 0,
+        Verdict::StencilFails => 1,
+        Verdict::DepthFails => 2,
+        Verdict::Passes => 3,
     }
 }
 

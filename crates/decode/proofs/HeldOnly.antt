@@ -9,10 +9,10 @@ use Rattle.settings.proofs.HeldBits.{same-settings}
 use Rattle.decode.specs.Decoded.{settingsOf, decodedOf}
 
 -- two states that agree on the held bits, and are both of the right lengths or both not, decode alike
-pub held-only : (s s′ : State) → sized s ≡ sized s′
+pub decoded-held-only : (s s′ : State) → sized s ≡ sized s′
     → ((i : ℕ) → bitAnd (getD (s .cells) i 0) (bitsOf i) ≡ bitAnd (getD (s′ .cells) i 0) (bitsOf i))
     → decodedOf s ≡ decodedOf s′
 unfolding decodedOf
-held-only s s′ e agree =
+decoded-held-only s s′ e agree =
     let q : settingsOf s ≡ settingsOf s′ = same-settings (s .cells) (s′ .cells) agree in
     rw (e, q)

@@ -10,9 +10,9 @@ use lib.Dec.{eqb, ltb}
 use lib.ListN.{length, getD, set}
 use lib.Seq.{getD-set-same, getD-set-other, set-out}
 use borrow.Author.Tests.{eqb-true, eqb-false, ltb-true}
-use Rattle.numbers.specs.Pick.{pick}
 use Rattle.numbers.specs.Bits.{bit, spread, merge, pickBit}
 use Rattle.numbers.proofs.Tests.{and-true}
+use Rattle.numbers.proofs.Picks.{pick-either}
 use Rattle.numbers.proofs.Merge.{and-bit, bits-equal, merge-bit}
 use Rattle.registers.specs.State.{State}
 use Rattle.registers.specs.Held.{Row, held, bitsIn, bitsOf}
@@ -51,16 +51,12 @@ small : List Row → Bool
 small [] = true
 small (r ∷ rs) = ltb (r .bits) 0x100000000 && small rs
 
-pick-small : (b : Bool) (x y n : ℕ) → x < n → y < n → pick b x y < n
-pick-small true x y n p q = p
-pick-small false x y n p q = q
-
 row-small : (rs : List Row) (j : ℕ) → small rs ≡ true → bitsIn rs j < 0x100000000
 unfolding bitsIn small
 row-small [] j t = omega arith
 row-small (r ∷ rs) j t =
     let u = and-true (ltb (r .bits) 0x100000000) (small rs) t in
-    pick-small (eqb (r .id) j) (r .bits) (bitsIn rs j) 0x100000000 (ltb-true (r .bits) 0x100000000 (u .0)) (row-small rs j (u .1))
+    pick-either (λ n. n < 0x100000000) (eqb (r .id) j) (ltb-true (r .bits) 0x100000000 (u .0)) (row-small rs j (u .1))
 
 held-small : (j : ℕ) → bitsOf j < 0x100000000
 unfolding bitsOf small held

@@ -10,7 +10,7 @@ use Rattle.settings.specs.declared.records.DepthAllowed.{DepthAllowed}
 use Rattle.settings.specs.declared.records.Framebuffer.{Framebuffer}
 use Rattle.settings.specs.declared.records.Settings.{Settings}
 use Rattle.decode.specs.declared.Decoded.{Decoded}
-use Rattle.decode.proofs.HeldOnly.{held-only}
+use Rattle.decode.proofs.HeldOnly.{decoded-held-only}
 use Rattle.combiner.specs.Chain.{combinerOf}
 use Rattle.combiner.specs.declared.Given.{Given}
 use Rattle.stores.specs.Tests.{verdictOf}
@@ -24,7 +24,7 @@ use Rattle.stores.specs.declared.Stored.{Stored}
 pub drawn-held-only : (s s′ : State) → sized s ≡ sized s′
     → ((i : ℕ) → bitAnd (getD (s .cells) i 0) (bitsOf i) ≡ bitAnd (getD (s′ .cells) i 0) (bitsOf i))
     → (g : Given) (incoming : ℕ) (stored : Stored) → drawnOf s g incoming stored ≡ drawnOf s′ g incoming stored
-drawn-held-only s s′ e agree g incoming stored = ap (λ (d : Decoded). drawnFrom d g incoming stored) (held-only s s′ e agree)
+drawn-held-only s s′ e agree g incoming stored = ap (λ (d : Decoded). drawnFrom d g incoming stored) (decoded-held-only s s′ e agree)
 
 -- "112 and 114 aren't read": what becomes of a fragment is the same whatever they hold
 module _ (colour : ℕ) (depth : DepthAllowed) where

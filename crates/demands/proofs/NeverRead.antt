@@ -10,6 +10,7 @@ use lib.Dec.{eqb}
 use lib.ListN.{length, getD, set, length-set}
 use Rattle.numbers.specs.Pick.{pick}
 use Rattle.numbers.specs.Bits.{spread, merge}
+use Rattle.numbers.proofs.Picks.{pick-either}
 use Rattle.words.specs.Writes.{Write, fogData, lightData}
 use Rattle.registers.specs.State.{State, st}
 use Rattle.registers.specs.Held.{held, bitsIn, bitsOf}
@@ -40,21 +41,15 @@ light-cells-long : (c : List ℕ) → length (lightCells c) ≡ length c
 unfolding lightCells
 light-cells-long c = length-set c 0x1C5 (rise 256 (getD c 0x1C5 0))
 
-pick-long : (b : Bool) (l : List ℕ) (i x : ℕ) → length (pick b (set l i x) l) ≡ length l
-pick-long true l i x = length-set l i x
-pick-long false l i x = refl
-
-pick-kept : (b : Bool) (l : List ℕ) (i x : ℕ) → length (pick b l (set l i x)) ≡ length l
-pick-kept true l i x = refl
-pick-kept false l i x = length-set l i x
-
 light-long : (c l : List ℕ) (v : ℕ) → length (lightEntries c l v) ≡ length l
 unfolding lightEntries
-light-long c l v = pick-long (named (lightTable c)) l (lightPlace c) (entry (getD l (lightPlace c) 0) v)
+light-long c l v =
+    pick-either (λ k. length k ≡ length l) (named (lightTable c)) (length-set l (lightPlace c) (entry (getD l (lightPlace c) 0) v)) refl
 
 cells-long : (c : List ℕ) (i e v : ℕ) → length (cellsAfter c i e v) ≡ length c
 unfolding cellsAfter
-cells-long c i e v = pick-kept (eqb (bitsOf i) 0) c i (merge (bitAnd (bitsOf i) e) (getD c i 0) v)
+cells-long c i e v =
+    pick-either (λ k. length k ≡ length c) (eqb (bitsOf i) 0) refl (length-set c i (merge (bitAnd (bitsOf i) e) (getD c i 0) v))
 
 module _ (s t : State) (a : Alike s t) where
   cells-alike : (i m v j : ℕ) → heldIn (cellsAfter (s .cells) i (spread m) v) j ≡ heldIn (cellsAfter (t .cells) i (spread m) v) j

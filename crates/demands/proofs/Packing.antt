@@ -12,10 +12,10 @@ use Rattle.words.specs.Writes.{Write}
 use Rattle.words.specs.Commands.{expansion}
 use Rattle.registers.specs.State.{State, sized}
 use Rattle.registers.specs.Applied.{applyAll}
-use Rattle.reader.specs.Verdict.{verdict}
+use Rattle.reader.specs.ListVerdict.{verdict}
 use Rattle.reader.specs.Read.{readAnswer, readState}
 use Rattle.reader.proofs.Accepted.{verdict-accepted}
-use Rattle.runs.specs.Packed.{writes, Given, packed}
+use Rattle.runs.specs.PackedList.{writes, PackableRun, packed}
 use Rattle.runs.specs.Shortest.{Says, Shortest}
 use Rattle.runs.proofs.Writes.{writes-length}
 use Rattle.packer.specs.Packing.{packAnswer, spaceAfter, packSpace}
@@ -41,7 +41,7 @@ pub refused-pack : (is ms vs old : List ℕ) (n p : ℕ) → packAnswer is ms vs
 refused-pack is ms vs old n p e = kept (packAnswer is ms vs (length old)) (packed (writes is ms vs)) old n p e
 
 -- of at most 4,096 allowed writes with masks of at most 15, in three buffers of one length
-module _ (is ms vs : List ℕ) (G : Given is ms vs) where
+module _ (is ms vs : List ℕ) (G : PackableRun is ms vs) where
   abbrev ws : List Write
   ws = writes is ms vs
 
@@ -84,5 +84,5 @@ module _ (is ms vs : List ℕ) (G : Given is ms vs) where
   room old h = pack-fits is ms vs G old h
 
 pub no-room-then : (is ms vs : List ℕ) (n m : ℕ) → packAnswer is ms vs n ≡ refused 10 m
-    → Given is ms vs × (m ≡ length (packed (writes is ms vs))) × (n < m)
+    → PackableRun is ms vs × (m ≡ length (packed (writes is ms vs))) × (n < m)
 no-room-then = no-room-only

@@ -13,7 +13,7 @@ use Rattle.registers.specs.State.{State, sized}
 use Rattle.registers.specs.Applied.{applyAll}
 use Rattle.registers.specs.Single.{writeAnswer, writeState}
 use Rattle.registers.proofs.Laws.{refused-keeps}
-use Rattle.reader.specs.Verdict.{verdict, allAllowed}
+use Rattle.reader.specs.ListVerdict.{verdict, allAllowed}
 use Rattle.reader.specs.Read.{readAnswer, readState, ifAnswered}
 use Rattle.reader.proofs.Accepted.{verdict-accepted, verdict-accepts}
 

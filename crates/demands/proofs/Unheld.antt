@@ -144,9 +144,9 @@ light-unnamed cells light v j u = go (named (lightTable cells)) refl
 -- THE STATEMENTS, of any state and any run of writes
 
 -- "What a lent cell holds beside its held bits .. never changes, nor do cells of other ids": a bit that isn't held keeps its value
-pub held-only : (j k : ℕ) → k < 32 → bit k (bitsOf j) ≡ 0 → (s : State) (ws : List Write)
+pub unheld-kept : (j k : ℕ) → k < 32 → bit k (bitsOf j) ≡ 0 → (s : State) (ws : List Write)
     → bit k (getD (applyAll s ws .cells) j 0) ≡ bit k (getD (s .cells) j 0)
-held-only j k b u =
+unheld-kept j k b u =
     run-keeps (λ (s : State). bit k (getD (s .cells) j 0))
     (λ s w.
     write-keeps (λ (s : State). bit k (getD (s .cells) j 0)) s w (fog-bit (s .cells) j k b u) (light-bit (s .cells) j k b u)

@@ -7,13 +7,13 @@ use Rattle.words.specs.Writes.{Write, writing}
 use Rattle.words.specs.Commands.{expansion}
 use Rattle.registers.specs.State.{State, st}
 use Rattle.registers.specs.Applied.{apply, applyAll}
-use Rattle.reader.specs.Verdict.{verdict}
+use Rattle.reader.specs.ListVerdict.{verdict}
 use Rattle.settings.specs.Ranges.{inCells}
 use Rattle.settings.specs.Settings.{settingsIn}
 use Rattle.settings.specs.Fields.{twos}
 use Rattle.lines.specs.Text.{ascii}
 use Rattle.lines.specs.Lines.{lineOf}
-use Rattle.runs.specs.Packed.{writes, packed}
+use Rattle.runs.specs.PackedList.{writes, packed}
 use Rattle.combiner.specs.Modes.{combined}
 use Rattle.combiner.specs.Dot.{dot3Of}
 use Rattle.combiner.specs.declared.dot.Rgb.{Rgb}

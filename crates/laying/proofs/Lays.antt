@@ -14,10 +14,10 @@ use Rattle.numbers.proofs.Copy.{next-word}
 use Rattle.words.specs.Writes.{Write, writing}
 use Rattle.cuts.specs.Cuts.{words, first}
 use Rattle.runs.specs.Span.{span}
-use Rattle.runs.specs.Packed.{writes, values, Given, stepFor, header, command, OneCommand, packed}
+use Rattle.runs.specs.PackedList.{writes, values, PackableRun, stepFor, header, command, OneCommand, packed}
 use Rattle.runs.proofs.Chain.{step-lone, step-same, step-rise}
 use Rattle.runs.proofs.Command.{command-extra, command-pad}
-use Rattle.runs.proofs.Packed.{packed-none, packed-more, first-command}
+use Rattle.runs.proofs.PackedList.{packed-none, packed-more, first-command}
 use Rattle.runs.proofs.RoundTrip.{plain-drop}
 use Rattle.runs.proofs.Shortest.{plain}
 use Rattle.runs.proofs.Writes.{writes-length, writes-at, values-from}
@@ -39,7 +39,7 @@ pub copied : (old s start new : List ℕ) (at m n : ℕ) → start ≡ paste old
 copied old s start new at m n e f g h q r = f ∙ rw (e, g) (copy-more old s at 2 n q (omega arith) h)
 
 -- THE WORDS OF THE COMMAND of k writes from i on
-module _ (is ms vs : List ℕ) (G : Given is ms vs) (i k : ℕ) (F : OneCommand (drop i (writes is ms vs)) k) where
+module _ (is ms vs : List ℕ) (G : PackableRun is ms vs) (i k : ℕ) (F : OneCommand (drop i (writes is ms vs)) k) where
   abbrev ws : List Write
   ws = writes is ms vs
 

@@ -7,7 +7,7 @@ use borrow.Fn.Kinds.{Dens}
 use contract.Lifetimes.{Lfts}
 use denote.Ref.{now}
 use Rattle.numbers.specs.Settled.{Settles, settled}
-use Rattle.runs.specs.Packed.{writes, packed}
+use Rattle.runs.specs.PackedList.{writes, packed}
 use Rattle.laying.proofs.lay_out.Reads as lay-out
 use Rattle.laying.proofs.lay_out.Kinds as lay-out-kinds
 

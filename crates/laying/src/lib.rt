@@ -8,7 +8,7 @@ ghost use lib.ListN.{length, drop};
 ghost use lib.Seq.{paste};
 ghost use Rattle.numbers.specs.Pick.{pick};
 ghost use Rattle.cuts.specs.Cuts.{words};
-ghost use Rattle.runs.specs.Packed.{writes, Given, header, command, OneCommand, packed};
+ghost use Rattle.runs.specs.PackedList.{writes, PackableRun, header, command, OneCommand, packed};
 ghost use Rattle.planning.specs.Plan.{Sizes};
 ghost use Rattle.laying.specs.Laying.{stepAt, afterShort};
 
@@ -73,7 +73,7 @@ fn put_command(
     at: usize,
 )
     requires { ⌜
-        Given (now ids) (now masks) (now values) × OneCommand (drop i (writes (now ids) (now masks) (now values))) k
+        PackableRun (now ids) (now masks) (now values) × OneCommand (drop i (writes (now ids) (now masks) (now values))) k
         × (i + k ≤ length (now ids)) × (at + words k ≤ length (now space))
         ⌝ }
     ensures { λ _. ⌜
@@ -100,7 +100,7 @@ fn put_command(
 // Writes the packed list to the start of the space, by the sizes that were planned.
 pub fn lay_out(ids: &[u32], masks: &[u32], values: &[u32], extra: &[u8], space: &mut [u32])
     requires { ⌜
-        Given (now ids) (now masks) (now values) × (length (now ids) ≤ length (now extra))
+        PackableRun (now ids) (now masks) (now values) × (length (now ids) ≤ length (now extra))
         × Sizes (writes (now ids) (now masks) (now values)) (now extra)
         × (length (packed (writes (now ids) (now masks) (now values))) ≤ length (now space))
         ⌝ }

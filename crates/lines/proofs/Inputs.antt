@@ -7,7 +7,7 @@ use lib.Dec.{leb, eqb}
 use lib.ListN.{length}
 use borrow.Author.Tests.{leb-true}
 use Rattle.numbers.proofs.Tests.{and-true}
-use Rattle.reader.specs.Verdict.{verdict}
+use Rattle.reader.specs.ListVerdict.{verdict}
 use Rattle.lines.specs.Text.{ascii}
 use Rattle.lines.specs.Lines.{wordsIn, lineFor, isList, lineOf}
 

@@ -7,7 +7,7 @@ use lib.Dec.{leb, eqb}
 use lib.ListN.{length, getD}
 use Rattle.numbers.specs.Answer.{Answer, answered, refused}
 use Rattle.numbers.specs.Pick.{pick}
-use Rattle.reader.specs.Verdict.{verdict}
+use Rattle.reader.specs.ListVerdict.{verdict}
 use Rattle.lines.specs.Text.{ascii, decimal}
 
 -- word k of the bytes, little-endian

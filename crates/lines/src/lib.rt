@@ -6,7 +6,7 @@ ghost use Rattle.numbers.specs.Answer.{answered, refused};
 ghost use Rattle.reader.specs.Read.{told};
 ghost use Rattle.lines.specs.Text.{decimal, over, Put};
 ghost use Rattle.lines.specs.Lines.{wordsIn, lineFor, lineOf};
-use reader::Verdict;
+use reader::ListVerdict;
 
 // Puts a text at `at`, and answers the place after it.
 fn put_text(line: &mut [u8], at: usize, text: &[u8]) -> usize
@@ -59,12 +59,12 @@ fn put_refused(line: &mut [u8], number: u32, place: usize) -> usize
 }
 
 // The line that gives a verdict, at the start of the lent space; answers how many bytes it has. The space past it keeps its contents.
-pub fn line_for(verdict: Verdict, line: &mut [u8; 64]) -> usize
+pub fn line_for(verdict: ListVerdict, line: &mut [u8; 64]) -> usize
     ensures { λ r. ⌜ Put (now (line .entry)) (lineFor (told verdict)) r (now (line .exit)) ⌝ }
 {
     match verdict {
-        Verdict::Accepted(n) => put_ok(line, n),
-        Verdict::Refused(r) => put_refused(line, r.number, r.place),
+        ListVerdict::Accepted(n) => put_ok(line, n),
+        ListVerdict::Refused(r) => put_refused(line, r.number, r.place),
     }
 }
 

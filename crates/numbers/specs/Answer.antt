@@ -1,6 +1,11 @@
 -- "Numbers given back": a call answers, or refuses with a number and a place.
-use Prim.Native.Nat.{ℕ}
+use Prim.Native.Nat.{ℕ, zero, suc}
 
 pub data Answer : Type 0 where
   answered : ℕ → Answer
   refused : ℕ → ℕ → Answer
+
+-- a fault, which is not 0, refuses with its number at a place; without one the rest decides
+abbrev pub unlessFault : ℕ → ℕ → Answer → Answer
+unlessFault zero p rest = rest
+unlessFault (suc f) p rest = refused (suc f) p

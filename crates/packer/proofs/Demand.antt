@@ -10,29 +10,26 @@ use native.Mathlib.Omega.{arith}
 use lib.Dec.{ltb, leb, eqb}
 use lib.ListN.{length, drop}
 use Rattle.numbers.specs.Pick.{pick}
-use Rattle.numbers.specs.Answer.{Answer, answered, refused}
+use Rattle.numbers.specs.Answer.{Answer, answered, refused, unlessFault}
+use Rattle.numbers.proofs.Answers.{told-apart, number-one, place-one}
+use Rattle.numbers.proofs.Picks.{pick-either}
 use Rattle.words.specs.Writes.{Write, faultOf, jumps, portData}
-use Rattle.reader.specs.Verdict.{unlessFault}
-use Rattle.runs.specs.Packed.{writes, Given, packed}
+use Rattle.runs.specs.PackedList.{writes, PackableRun, packed}
 use Rattle.runs.specs.Shortest.{Says, Shortest}
 use Rattle.runs.proofs.Shortest.{packed-shortest, packed-least}
-use Rattle.packer.specs.Given.{wrong, firstWrong, checkAnswer}
+use Rattle.packer.specs.Checks.{wrong, firstWrong, checkAnswer}
 use Rattle.packer.specs.Packing.{ifRoom, andThen, packAnswer, packSpace}
-use Rattle.packer.proofs.Given.{level, check-given, given-check}
+use Rattle.packer.proofs.Checks.{level, check-given, given-check}
 use Rattle.packer.proofs.Packs.{pack-room, room-enough, room-short}
 
 -- 10 IS NO REFUSAL OF THE WRITES
 
-pick-below : (b : Bool) (x y n : ℕ) → x < n → y < n → pick b x y < n
-pick-below true x y n p q = p
-pick-below false x y n p q = q
-
 wrong-below : (i m : ℕ) → wrong i m < 10
 unfolding faultOf
 wrong-below i m =
-    pick-below (ltb 15 m) 9 _ 10 (omega arith)
-    (pick-below (ltb 0x2FF i) 3 _ 10 (omega arith)
-    (pick-below (jumps i) 4 _ 10 (omega arith) (pick-below (portData i && not (eqb m 15)) 5 0 10 (omega arith) (omega arith))))
+    pick-either (λ n. n < 10) (ltb 15 m) (omega arith)
+    (pick-either (λ n. n < 10) (ltb 0x2FF i) (omega arith)
+    (pick-either (λ n. n < 10) (jumps i) (omega arith) (pick-either (λ n. n < 10) (portData i && not (eqb m 15)) (omega arith) (omega arith))))
 
 unless-below : (f i n p : ℕ) (rest : Answer) → f < 10 → unlessFault f i rest ≡ refused n p → (rest ≡ refused n p → n < 10) → n < 10
 unless-below zero i n p rest h e r = r e
@@ -40,7 +37,7 @@ unless-below (suc f) i n p rest h e r = let z : suc f ≡ n = cc in omega arith
 
 first-below : (i n p : ℕ) (ws : List Write) → firstWrong i ws ≡ refused n p → n < 10
 unfolding firstWrong
-first-below i n p [] e = absurd (let z : _≡_ {A = ℕ} 0 1 = cc in omega arith)
+first-below i n p [] e = absurd (told-apart e)
 first-below i n p (w ∷ ws) e =
     unless-below (wrong (w .id) (w .mask)) i n p (firstWrong (i + 1) ws) (wrong-below (w .id) (w .mask)) e (first-below (i + 1) n p ws)
 
@@ -58,13 +55,13 @@ module _ (is ms vs : List ℕ) where
   ws = writes is ms vs
 
   -- WRITES THAT CAN BE PACKED, ALWAYS: the shortest list where there is room for it, and the space past it as it was
-  pub pack-fits : Given is ms vs → (old : List ℕ) → length (packed ws) ≤ length old
+  pub pack-fits : PackableRun is ms vs → (old : List ℕ) → length (packed ws) ≤ length old
       → (packAnswer is ms vs (length old) ≡ answered (length (packed ws))) × (packSpace is ms vs old ≡ packed ws ++ drop (length (packed ws)) old)
   pack-fits G old h =
       let r = pack-room is ms vs old 0 _ _ (given-check is ms vs G) (room-enough (packed ws) (length old) _ refl h) refl in (sym (r .0), sym (r .1))
 
   -- else "no room" with its length, and all of the space as it was
-  pub pack-short : Given is ms vs → (old : List ℕ) → length old < length (packed ws)
+  pub pack-short : PackableRun is ms vs → (old : List ℕ) → length old < length (packed ws)
       → (packAnswer is ms vs (length old) ≡ refused 10 (length (packed ws))) × (packSpace is ms vs old ≡ old)
   pack-short G old h =
       let r = pack-room is ms vs old 0 _ _ (given-check is ms vs G) (room-short (packed ws) (length old) _ refl h) refl in (sym (r .0), sym (r .1))
@@ -74,11 +71,11 @@ module _ (is ms vs : List ℕ) where
   Early a = (n : ℕ) × (p : ℕ) × (a ≡ refused n p) × (n < 10)
 
   from-check : (room : ℕ) (a b : Answer) → checkAnswer is ms vs ≡ b → andThen b (ifRoom (packed ws) room) ≡ a
-      → (Given is ms vs × (ifRoom (packed ws) room ≡ a)) ⊎ Early a
+      → (PackableRun is ms vs × (ifRoom (packed ws) room ≡ a)) ⊎ Early a
   from-check room a (answered m) c e = inl (check-given is ms vs m c, e)
   from-check room a (refused m p) c e = inr (m, p, sym e, check-below is ms vs m p c)
 
-  cases : (room : ℕ) (a : Answer) → packAnswer is ms vs room ≡ a → (Given is ms vs × (ifRoom (packed ws) room ≡ a)) ⊎ Early a
+  cases : (room : ℕ) (a : Answer) → packAnswer is ms vs room ≡ a → (PackableRun is ms vs × (ifRoom (packed ws) room ≡ a)) ⊎ Early a
   unfolding packAnswer
   cases room a e = from-check room a (checkAnswer is ms vs) refl e
 
@@ -93,19 +90,19 @@ module _ (is ms vs : List ℕ) where
       let r = room-enough (packed ws) room _ refl (omega arith) in absurd (let z : _≡_ {A = ℕ} 0 1 = cc in omega arith)
 
   -- AND ONLY THEN: an answer is the length of that list, for which there is room
-  pub answered-only : (room n : ℕ) → packAnswer is ms vs room ≡ answered n → Given is ms vs × (n ≡ length (packed ws)) × (n ≤ room)
+  pub answered-only : (room n : ℕ) → packAnswer is ms vs room ≡ answered n → PackableRun is ms vs × (n ≡ length (packed ws)) × (n ≤ room)
   answered-only room n e =
       ⊎-elim (λ g. let r = by-room room n (g .1) (decLt room (length (packed ws))) in (g .0, r .0, r .1))
       (λ x. let q = x .2 in absurd (let z : _≡_ {A = ℕ} 0 1 = cc in omega arith)) (cases room (answered n) e)
 
   -- "no room" is said for its length, for which there is none
-  pub no-room-only : (room n : ℕ) → packAnswer is ms vs room ≡ refused 10 n → Given is ms vs × (n ≡ length (packed ws)) × (room < n)
+  pub no-room-only : (room n : ℕ) → packAnswer is ms vs room ≡ refused 10 n → PackableRun is ms vs × (n ≡ length (packed ws)) × (room < n)
   no-room-only room n e =
       ⊎-elim (λ g. let r = by-lack room n (g .1) (decLt room (length (packed ws))) in (g .0, r .0, r .1))
       (λ x. let q = x .2 in let z : x .0 ≡ 10 = cc in absurd (omega (arith, x .3))) (cases room (refused 10 n) e)
 
   -- THE LIST that is written is the shortest
-  pub given-shortest : Given is ms vs → Shortest ws (packed ws)
+  pub given-shortest : PackableRun is ms vs → Shortest ws (packed ws)
   given-shortest G = packed-shortest ws (G .packable)
 
   -- so "no room" means that the space holds no list that says the run

@@ -1,5 +1,4 @@
-pub mod Given
+pub mod Checks
 pub mod Packs
 pub mod Demand
 pub mod Once
-pub mod RoundTrip

@@ -9,7 +9,7 @@ use contract.Lifetimes.{Lfts}
 use denote.Ref.{now}
 use Rattle.numbers.specs.Settled.{Settles, settled}
 use Rattle.words.proofs.Once.{refusal-one}
-use Rattle.packer.specs.Given.{found, checkAnswer}
+use Rattle.packer.specs.Checks.{found, checkAnswer}
 use Rattle.packer.specs.Packing.{told, packAnswer, packSpace}
 use Rattle.packer.specs.declared.Checked.{Checked}
 use Rattle.packer.specs.declared.Checked.the-variants.{Fine, Refused as check-refused}

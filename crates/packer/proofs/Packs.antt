@@ -5,8 +5,8 @@ use Prim.Native.Nat.{ℕ, _≤_, _<_}
 use lib.ListN.{length}
 use borrow.Author.Tests.{le-leb, lt-leb}
 use Rattle.numbers.specs.Answer.{Answer, answered, refused}
-use Rattle.runs.specs.Packed.{writes, packed}
-use Rattle.packer.specs.Given.{checkAnswer}
+use Rattle.runs.specs.PackedList.{writes, packed}
+use Rattle.packer.specs.Checks.{checkAnswer}
 use Rattle.packer.specs.Packing.{ifRoom, packAnswer, spaceAfter, packSpace}
 
 -- THE TEST FOR ROOM

@@ -5,8 +5,8 @@ use lib.Dec.{leb}
 use lib.ListN.{length, drop}
 use Rattle.numbers.specs.Pick.{pick}
 use Rattle.numbers.specs.Answer.{Answer, answered, refused}
-use Rattle.runs.specs.Packed.{writes, packed}
-use Rattle.packer.specs.Given.{checkAnswer}
+use Rattle.runs.specs.PackedList.{writes, packed}
+use Rattle.packer.specs.Checks.{checkAnswer}
 use Rattle.packer.specs.declared.Packed.{Packed}
 use Rattle.packer.specs.declared.Packed.the-variants.{Words, Refused}
 

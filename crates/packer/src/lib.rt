@@ -1,13 +1,13 @@
 // A run of writes packed into the shortest list: the writes are checked, their commands planned from the run's end (crate planning), and laid out
-// from its start (crate laying). The contracts cite specs/Given.antt and specs/Packing.antt; the packed list itself is defined in crate runs.
+// from its start (crate laying). The contracts cite specs/Checks.antt and specs/Packing.antt; the packed list itself is defined in crate runs.
 ghost use mathlib.Core.Path.{_≡_};
 ghost use mathlib.Core.Bool.{true};
 ghost use mathlib.Core.List.{List};
 ghost use Prim.Native.Nat.{ℕ, _≤_, _<_};
 ghost use lib.ListN.{length};
-ghost use Rattle.runs.specs.Packed.{writes, Given, packed};
+ghost use Rattle.runs.specs.PackedList.{writes, PackableRun, packed};
 ghost use Rattle.numbers.specs.Answer.{answered};
-ghost use Rattle.packer.specs.Given.{wrong, firstWrong, checkAnswer, found};
+ghost use Rattle.packer.specs.Checks.{wrong, firstWrong, checkAnswer, found};
 ghost use Rattle.packer.specs.Packing.{told, ifRoom, packAnswer, spaceAfter, packSpace};
 use words::Refusal;
 
@@ -117,7 +117,7 @@ fn fill(
     space: &mut [u32],
 ) -> Packed
     requires { ⌜
-        Given (now ids) (now masks) (now values) × (length (now ids) < length (now least)) × (length (now ids) ≤ length (now extra))
+        PackableRun (now ids) (now masks) (now values) × (length (now ids) < length (now least)) × (length (now ids) ≤ length (now extra))
         ⌝ }
     ensures { λ r. ⌜
         (told r

@@ -16,9 +16,9 @@ use Rattle.cuts.proofs.Choice.{size-same, after-drop}
 use Rattle.cuts.proofs.Steps.{table-at, first-at, least-of, least-nil}
 use Rattle.cuts.proofs.Least.{least-short, least-falls}
 use Rattle.runs.specs.Span.{leads, chain, span}
-use Rattle.runs.specs.Packed.{writes, OneCommand}
+use Rattle.runs.specs.PackedList.{writes, OneCommand}
 use Rattle.runs.proofs.Chain.{spans, chain-fits, chain-nil, chain-cons, span-is}
-use Rattle.runs.proofs.Packed.{first-command}
+use Rattle.runs.proofs.PackedList.{first-command}
 use Rattle.runs.proofs.Writes.{writes-length, writes-at}
 use Rattle.planning.specs.declared.Choice.{Choice}
 use Rattle.planning.specs.Plan.{wordsBy, Longest, Chose, PlannedFrom}

@@ -8,7 +8,7 @@ ghost use lib.Dec.{eqb, ltb};
 ghost use lib.ListN.{length, drop};
 ghost use Rattle.numbers.specs.Pick.{pick};
 ghost use Rattle.cuts.specs.Cuts.{words};
-ghost use Rattle.runs.specs.Packed.{writes};
+ghost use Rattle.runs.specs.PackedList.{writes};
 ghost use Rattle.planning.specs.Plan.{sizeBy, wordsBy, Longest, Chose, Planned};
 
 fn wide(x: u16) -> usize

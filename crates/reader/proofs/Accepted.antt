@@ -9,12 +9,13 @@ use lib.Dec.{eqb}
 use lib.ListN.{length, length-append}
 use borrow.Author.Tests.{eq-eqb, eqb-true, ne-eqb}
 use Rattle.numbers.specs.Pick.{pick}
-use Rattle.numbers.specs.Answer.{Answer, answered, refused}
+use Rattle.numbers.specs.Answer.{Answer, answered, unlessFault}
 use Rattle.numbers.proofs.Tests.{and-true}
+use Rattle.numbers.proofs.Answers.{unless-answered}
 use Rattle.words.specs.Writes.{Write, faultOf, allowed}
 use Rattle.words.specs.Commands.{whole, expand, commands, join, expansion, full, wellFormed}
 use Rattle.words.proofs.Laws.{expansion-of, join-none, join-more, formed-of, full-none, full-more, allowed-fault}
-use Rattle.reader.specs.Verdict.{firstFault, commandFault, unlessFault, judge, verdict, allAllowed}
+use Rattle.reader.specs.ListVerdict.{firstFault, commandFault, judge, verdict, allAllowed}
 
 -- RUNS OF WRITES
 
@@ -45,10 +46,6 @@ no-fault : (b : Bool) (f : ℕ) → pick b f 2 ≡ 0 → (b ≡ true) × (f ≡ 
 no-fault true f e = (refl, e)
 no-fault false f e = absurd (omega arith)
 
-unless-none : (f p m : ℕ) (rest : Answer) → unlessFault f p rest ≡ answered m → (f ≡ 0) × (rest ≡ answered m)
-unless-none zero p m rest e = (refl, e)
-unless-none (suc f) p m rest e = absurd (let z : _≡_ {A = ℕ} 0 1 = cc in omega arith)
-
 -- ALL COMMANDS
 
 pub judge-none : (l : List ℕ) (n : ℕ) → judge l [] n ≡ answered n
@@ -74,7 +71,7 @@ judge-accepted l [] n m e =
     let d : n ≡ m = cc (judge-none l n) in
     record { form = full-none l; writes = rw (join-none l) nil-allowed; number = rw (join-none l) (omega arith) }
 judge-accepted l (p ∷ ps) n m e =
-    let q = unless-none (commandFault l p) p m (judge l ps (n + length (expand l p))) (sym (judge-more l p ps n) ∙ e) in
+    let q = unless-answered (commandFault l p) p m (judge l ps (n + length (expand l p))) (sym (judge-more l p ps n) ∙ e) in
     let r = judge-accepted l ps (n + length (expand l p)) m (q .1) in
     let f = no-fault (whole l p) (firstFault (expand l p)) (q .0) in
     let a : allAllowed (expand l p) ≡ true = allowed-first (expand l p) ∙ eq-eqb (firstFault (expand l p)) 0 (f .1) in

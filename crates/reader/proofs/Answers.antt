@@ -9,7 +9,7 @@ use Rattle.numbers.specs.Answer.{Answer, answered, refused}
 use Rattle.words.specs.Commands.{expansion}
 use Rattle.registers.specs.State.{State, sized}
 use Rattle.registers.specs.Applied.{applyAll}
-use Rattle.reader.specs.Verdict.{verdict}
+use Rattle.reader.specs.ListVerdict.{verdict}
 use Rattle.reader.specs.Read.{readAnswer, readState}
 
 -- the reading of l into s answers a and leaves t

@@ -8,12 +8,13 @@ use lib.Dec.{eqb}
 use lib.ListN.{length}
 use borrow.Author.Tests.{ne-eqb, le-leb, lt-leb, eqb-true}
 use Rattle.numbers.specs.Pick.{pick}
-use Rattle.numbers.specs.Answer.{Answer, answered, refused}
+use Rattle.numbers.specs.Answer.{answered, refused}
+use Rattle.numbers.proofs.Answers.{unless-refuses}
 use Rattle.words.specs.Header.{idOf, maskOf, countOf, stepOf, wordsOf}
 use Rattle.words.specs.Writes.{Write, faultOf}
 use Rattle.words.specs.Commands.{headerAt, run, expand, commands}
 use Rattle.words.proofs.Laws.{commands-end, commands-step, run-done, run-next, run-length}
-use Rattle.reader.specs.Verdict.{firstFault, unlessFault, judge, verdict}
+use Rattle.reader.specs.ListVerdict.{firstFault, judge, verdict}
 use Rattle.reader.specs.Clear.{lastId, clear}
 use Rattle.reader.proofs.Clearing.{clear-fault}
 use Rattle.reader.proofs.Accepted.{judge-none, judge-more}
@@ -90,10 +91,6 @@ module _ (l : List ℕ) (at : ℕ) where
   pub judge-end : (n : ℕ) → length l ≤ at → judge l (commands l at) n ≡ answered n
   judge-end n e = rw (commands-end l at e) (judge-none l n)
 
-  stop : (f : ℕ) (a : Answer) → (f ≡ 0 → ⊥) → unlessFault f at a ≡ refused f at
-  stop zero a z = absurd (z refl)
-  stop (suc f) a z = refl
-
   -- a command that lacks words is refused with 2 at its first word
   pub judge-short : (n : ℕ) → at < length l → length l < at + wordsOf h → judge l (commands l at) n ≡ refused 2 at
   judge-short n i s =
@@ -104,7 +101,7 @@ module _ (l : List ℕ) (at : ℕ) where
       → judge l (commands l at) n ≡ refused f at
   judge-fault n f i s e z =
       rw (commands-step l at i)
-      (judge-more l at (commands l (at + wordsOf h)) n ∙ rw (le-leb (at + wordsOf h) (length l) s, e) (stop f _ z))
+      (judge-more l at (commands l (at + wordsOf h)) n ∙ rw (le-leb (at + wordsOf h) (length l) s, e) (unless-refuses f at _ z))
 
   -- else it goes on after the command's words, with its writes counted
   pub judge-pass : (n : ℕ) → at < length l → at + wordsOf h ≤ length l → firstFault (expand l at) ≡ 0

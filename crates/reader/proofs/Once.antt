@@ -10,17 +10,17 @@ use Rattle.numbers.specs.Answer.{answered, refused}
 use Rattle.numbers.specs.Settled.{Settles, settled}
 use Rattle.words.proofs.Once.{refusal-one}
 use Rattle.registers.specs.State.{st}
-use Rattle.reader.specs.Verdict.{verdict}
+use Rattle.reader.specs.ListVerdict.{verdict}
 use Rattle.reader.specs.Read.{told, readAnswer, readState}
-use Rattle.reader.specs.declared.Verdict.{Verdict}
-use Rattle.reader.specs.declared.Verdict.the-variants.{Accepted, Refused}
+use Rattle.reader.specs.declared.ListVerdict.{ListVerdict}
+use Rattle.reader.specs.declared.ListVerdict.the-variants.{Accepted, Refused}
 use Rattle.reader.proofs.judge_list.Reads as judge-list
 use Rattle.reader.proofs.judge_list.Kinds as judge-list-kinds
 use Rattle.reader.proofs.read.Reads as read
 use Rattle.reader.proofs.read.Kinds as read-kinds
 
 -- no two verdicts mean the same
-pub told-one : (a b : Verdict) → told a ≡ told b → a ≡ b
+pub told-one : (a b : ListVerdict) → told a ≡ told b → a ≡ b
 told-one (Accepted n) (Accepted m) e = cc
 told-one (Accepted n) (Refused r) e = let z : _≡_ {A = ℕ} 0 1 = cc in absurd (omega arith)
 told-one (Refused r) (Accepted m) e = let z : _≡_ {A = ℕ} 0 1 = cc in absurd (omega arith)

@@ -1,4 +1,4 @@
 pub mod Clear
 pub mod ToOne
-pub mod Verdict
+pub mod ListVerdict
 pub mod Read

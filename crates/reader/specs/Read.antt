@@ -8,12 +8,12 @@ use Rattle.numbers.specs.Answer.{Answer, answered, refused}
 use Rattle.words.specs.Commands.{expansion}
 use Rattle.registers.specs.State.{State, sized}
 use Rattle.registers.specs.Applied.{applyAll}
-use Rattle.reader.specs.Verdict.{verdict}
-use Rattle.reader.specs.declared.Verdict.{Verdict}
-use Rattle.reader.specs.declared.Verdict.the-variants.{Accepted, Refused}
+use Rattle.reader.specs.ListVerdict.{verdict}
+use Rattle.reader.specs.declared.ListVerdict.{ListVerdict}
+use Rattle.reader.specs.declared.ListVerdict.the-variants.{Accepted, Refused}
 
 -- the document's number and values for each case of the answer
-abbrev pub told : Verdict → Answer
+abbrev pub told : ListVerdict → Answer
 told (Accepted n) = answered n
 told (Refused r) = refused (r .number) (r .place)
 

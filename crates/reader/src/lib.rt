@@ -1,4 +1,4 @@
-// A list read into a state: judged whole, and then applied. The contracts cite specs/Verdict.antt and specs/Read.antt, and for the code's own
+// A list read into a state: judged whole, and then applied. The contracts cite specs/ListVerdict.antt and specs/Read.antt, and for the code's own
 // steps specs/Clear.antt and specs/ToOne.antt.
 ghost use mathlib.Core.Path.{_≡_};
 ghost use mathlib.Core.Bool.{true};
@@ -12,13 +12,13 @@ ghost use Rattle.registers.specs.State.{st};
 ghost use Rattle.registers.specs.Tables.{heldTable, slotTable};
 ghost use Rattle.registers.specs.Applied.{applyAll};
 ghost use Rattle.reader.specs.ToOne.{ToOne};
-ghost use Rattle.reader.specs.Verdict.{verdict};
+ghost use Rattle.reader.specs.ListVerdict.{verdict};
 ghost use Rattle.reader.specs.Clear.{lastId, clear};
 ghost use Rattle.reader.specs.Read.{told, readAnswer, readState};
 use words::Head;
 use words::Refusal;
 
-pub enum Verdict {
+pub enum ListVerdict {
     Accepted(usize),
     Refused(Refusal),
 }
@@ -54,17 +54,17 @@ fn deciding(id: u32, mask: u32, count: u32, step: u32) -> u32
 }
 
 // The verdict on a list of any length: commands in order, each for its words and then for its writes.
-pub fn judge_list(list: &[u32]) -> Verdict
+pub fn judge_list(list: &[u32]) -> ListVerdict
     ensures { λ r. ⌜ told r ≡ verdict (now (list .entry)) ⌝ }
 {
     let mut at: usize = 0;
     let mut n: usize = 0;
     'commands: loop {
         if list.len() <= at {
-            break 'commands Verdict::Accepted(n);
+            break 'commands ListVerdict::Accepted(n);
         }
         let Head::Taken(h) = words::head_at(list, at) else {
-            break 'commands Verdict::Refused(Refusal {
+            break 'commands ListVerdict::Refused(Refusal {
                 number: words::WORDS_MISSING,
                 place: at,
             });
@@ -74,7 +74,7 @@ pub fn judge_list(list: &[u32]) -> Verdict
         while 0 < left {
             let why = words::fault(id, h.mask);
             if why != 0 {
-                break 'commands Verdict::Refused(Refusal {
+                break 'commands ListVerdict::Refused(Refusal {
                     number: why,
                     place: at,
                 });
@@ -219,7 +219,7 @@ fn apply_list(cells: &mut [u32], fog: &mut [u32], light: &mut [u32], list: &[u32
 }
 
 // A list read into a state: the number of its writes, or a refusal, 6 before 1 before the verdict's; a refused list changes nothing.
-pub fn read(cells: &mut [u32], fog: &mut [u32], light: &mut [u32], list: &[u32]) -> Verdict
+pub fn read(cells: &mut [u32], fog: &mut [u32], light: &mut [u32], list: &[u32]) -> ListVerdict
     ensures answer { λ r. ⌜ told r ≡ readAnswer (st (now (cells .entry)) (now (fog .entry)) (now (light .entry))) (now (list .entry)) ⌝ }
     ensures state { λ _. ⌜
         st (now (cells .exit)) (now (fog .exit)) (now (light .exit))
@@ -227,21 +227,21 @@ pub fn read(cells: &mut [u32], fog: &mut [u32], light: &mut [u32], list: &[u32])
         ⌝ }
 {
     if !registers::is_sized(cells, fog, light) {
-        return Verdict::Refused(Refusal {
+        return ListVerdict::Refused(Refusal {
             number: words::BUFFER_LENGTH,
             place: 0,
         });
     }
     if 65536 < list.len() {
-        return Verdict::Refused(Refusal {
+        return ListVerdict::Refused(Refusal {
             number: words::LIST_TOO_LONG,
             place: 0,
         });
     }
     let verdict = judge_list(list);
-    let Verdict::Accepted(n) = verdict else {
+    let ListVerdict::Accepted(n) = verdict else {
         return verdict;
     };
     apply_list(cells, fog, light, list);
-    Verdict::Accepted(n)
+    ListVerdict::Accepted(n)
 }

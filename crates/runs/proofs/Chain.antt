@@ -17,7 +17,7 @@ use Rattle.words.specs.Header.{maskOf, countOf, stepOf, idOf}
 use Rattle.words.specs.Commands.{headerAt, run, expand}
 use Rattle.cuts.specs.Cuts.{Spans}
 use Rattle.runs.specs.Span.{leads, chain, span}
-use Rattle.runs.specs.Packed.{stepFor}
+use Rattle.runs.specs.PackedList.{stepFor}
 
 -- WHAT THE THEORY OF CUTS ASKS
 

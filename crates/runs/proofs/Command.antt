@@ -8,7 +8,7 @@ use lib.Seq.{getD-take, getD-append-add}
 use Rattle.words.specs.Header.{idOf, maskOf, countOf, stepOf}
 use Rattle.words.specs.Writes.{Write}
 use Rattle.cuts.specs.Cuts.{words}
-use Rattle.runs.specs.Packed.{values, header, command}
+use Rattle.runs.specs.PackedList.{values, header, command}
 
 -- WHAT STANDS IN A HEADER
 pub record Parts (i m k s h : ℕ) : Type 0 where

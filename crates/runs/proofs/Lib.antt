@@ -2,7 +2,7 @@ pub mod Chain
 pub mod Places
 pub mod Lists
 pub mod Command
-pub mod Packed
+pub mod PackedList
 pub mod RoundTrip
 pub mod Shortest
 pub mod Only

@@ -15,11 +15,11 @@ use Rattle.cuts.specs.Cuts.{words, first, sizes}
 use Rattle.cuts.proofs.Rests.{by-rests}
 use Rattle.cuts.proofs.Steps.{sizes-nil, sizes-cons}
 use Rattle.runs.specs.Span.{chain, span}
-use Rattle.runs.specs.Packed.{values, stepFor, header, command, OneCommand, packed}
+use Rattle.runs.specs.PackedList.{values, stepFor, header, command, OneCommand, packed}
 use Rattle.runs.specs.Shortest.{carried, Tidy, AllTidy}
 use Rattle.runs.proofs.Chain.{spans, chain-fits, chain-next, step-lone, step-chain}
 use Rattle.runs.proofs.Command.{Parts, header-parts, command-extra, command-pad}
-use Rattle.runs.proofs.Packed.{packed-none, packed-more, first-command}
+use Rattle.runs.proofs.PackedList.{packed-none, packed-more, first-command}
 
 -- every id and mask has its place in a header
 abbrev pub Plain : List Write → Type 0

@@ -12,17 +12,17 @@ use Rattle.numbers.proofs.Tests.{and-true}
 use Rattle.words.specs.Writes.{Write, jumps, portData}
 use Rattle.words.specs.Commands.{commands, expansion}
 use Rattle.words.proofs.Laws.{expansion-of, formed-of}
-use Rattle.reader.specs.Verdict.{verdict, allAllowed}
+use Rattle.reader.specs.ListVerdict.{verdict, allAllowed}
 use Rattle.reader.proofs.Accepted.{verdict-accepted, verdict-accepts}
 use Rattle.cuts.specs.Cuts.{Most, sizes}
 use Rattle.cuts.proofs.Least.{least-low}
 use Rattle.cuts.proofs.Most.{sizes-most}
 use Rattle.runs.specs.Span.{span}
-use Rattle.runs.specs.Packed.{Packable, packed}
+use Rattle.runs.specs.PackedList.{Packable, packed}
 use Rattle.runs.specs.Shortest.{sizesOf, AllTidy, Says, Shortest}
 use Rattle.runs.proofs.Chain.{spans}
 use Rattle.runs.proofs.Lists.{list-cut}
-use Rattle.runs.proofs.Packed.{packed-length, packed-short}
+use Rattle.runs.proofs.PackedList.{packed-length, packed-short}
 use Rattle.runs.proofs.RoundTrip.{Plain, Finds, packed-finds}
 
 -- an allowed id has its place in a header

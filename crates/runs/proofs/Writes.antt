@@ -6,7 +6,7 @@ use native.Mathlib.Numerals.{add-one}
 use native.Mathlib.Omega.{arith}
 use lib.ListN.{length, getD, drop}
 use Rattle.words.specs.Writes.{writing}
-use Rattle.runs.specs.Packed.{writes, values}
+use Rattle.runs.specs.PackedList.{writes, values}
 
 pub writes-length : (is ms vs : List ℕ) → length is ≡ length ms → length is ≡ length vs → length (writes is ms vs) ≡ length is
 writes-length [] ms vs e f = refl

@@ -1,3 +1,3 @@
 pub mod Span
-pub mod Packed
+pub mod PackedList
 pub mod Shortest

@@ -7,7 +7,7 @@ use Rattle.numbers.specs.Answer.{answered}
 use Rattle.words.specs.Header.{countOf, stepOf}
 use Rattle.words.specs.Writes.{Write}
 use Rattle.words.specs.Commands.{headerAt, commands, expansion}
-use Rattle.reader.specs.Verdict.{verdict}
+use Rattle.reader.specs.ListVerdict.{verdict}
 use Rattle.cuts.specs.Cuts.{Most}
 
 -- how many writes the commands at these places carry

@@ -1,13 +1,13 @@
 // How a vector is shown: its label with the answer's line, and then what some cells or entries hold after it was read into a state of zeros.
 use libc::STDOUT_FILENO;
-use reader::Verdict;
+use reader::ListVerdict;
 use words::Refusal;
 
 fn put(text: &[u8]) {
     io::write_all(STDOUT_FILENO, text);
 }
 
-fn put_answer(label: &[u8], verdict: Verdict) {
+fn put_answer(label: &[u8], verdict: ListVerdict) {
     let mut line = [0u8; 64];
     let n = lines::line_for(verdict, &mut line);
     put(label);
@@ -100,7 +100,7 @@ pub fn words_of(label: &[u8], n: usize, words: usize) {
 pub fn refusal_of(label: &[u8], n: usize, why: Refusal) {
     let mut line = [0u8; 64];
     put_count(label, n);
-    let k = lines::line_for(Verdict::Refused(why), &mut line);
+    let k = lines::line_for(ListVerdict::Refused(why), &mut line);
     put(&line[..k]);
 }
 

@@ -8,7 +8,7 @@ use borrow.Author.Needs.{needs}
 use Rattle.words.specs.Writes.{Write}
 use Rattle.cuts.specs.Cuts.{words, first}
 use Rattle.runs.specs.Span.{span}
-use Rattle.runs.specs.Packed.{writes, OneCommand}
+use Rattle.runs.specs.PackedList.{writes, OneCommand}
 use Rattle.runs.proofs.Writes.{writes-length}
 use Rattle.laying.proofs.Lays.{Laid, laid-none, one-command, laid-more, laid-all}
 use Rattle.laying.proofs.lay_out.Statement.{statement}

@@ -2,7 +2,7 @@
 use mathlib.Core.Path.{_≡_, sym, ap, _∙_}
 use native.Mathlib.Omega.{arith}
 use lib.Seq.{length-take-le}
-use Rattle.reader.specs.Verdict.{verdict}
+use Rattle.reader.specs.ListVerdict.{verdict}
 use Rattle.reader.specs.Read.{told}
 use Rattle.lines.specs.Lines.{lineFor, lineOf}
 use Rattle.lines.specs.Text.{ascii}

@@ -6,9 +6,9 @@ use native.Mathlib.Omega.{arith}
 use lib.ListN.{length, drop}
 use borrow.Author.Tests.{not-true, not-false}
 use borrow.Author.Needs.{needs}
-use Rattle.runs.specs.Packed.{writes}
-use Rattle.packer.specs.Given.{firstWrong, checkAnswer}
-use Rattle.packer.proofs.Given.{level, level-lengths, check-lengths, check-many, check-writes, wrong-none, wrong-here, wrong-end}
+use Rattle.runs.specs.PackedList.{writes}
+use Rattle.packer.specs.Checks.{firstWrong, checkAnswer}
+use Rattle.packer.proofs.Checks.{level, level-lengths, check-lengths, check-many, check-writes, wrong-none, wrong-here, wrong-end}
 use Rattle.packer.proofs.check.Statement.{statement}
 use Rattle.packer.proofs.check.Tie as tie
 

@@ -5,9 +5,9 @@ use Prim.Native.Nat.{ℕ, _-_, _≤_}
 use native.Mathlib.Omega.{arith}
 use lib.ListN.{length, drop}
 use borrow.Author.Needs.{needs}
-use Rattle.runs.specs.Packed.{writes}
-use Rattle.packer.specs.Given.{firstWrong}
-use Rattle.packer.proofs.Given.{lengths-level, wrong-none, wrong-end}
+use Rattle.runs.specs.PackedList.{writes}
+use Rattle.packer.specs.Checks.{firstWrong}
+use Rattle.packer.proofs.Checks.{lengths-level, wrong-none, wrong-end}
 use Rattle.packer.proofs.count_wrong.Statement.{statement}
 use Rattle.packer.proofs.count_wrong.Tie as tie
 

@@ -2,8 +2,8 @@
 use mathlib.Core.Path.{refl, sym, _∙_}
 use native.Mathlib.Omega.{arith}
 use borrow.Author.Needs.{needs}
-use Rattle.runs.specs.Packed.{writes, packed}
-use Rattle.runs.proofs.Packed.{packed-length}
+use Rattle.runs.specs.PackedList.{writes, packed}
+use Rattle.runs.proofs.PackedList.{packed-length}
 use Rattle.packer.proofs.Packs.{room-enough, room-short}
 use Rattle.packer.proofs.fill.Statement.{statement}
 use Rattle.packer.proofs.fill.Tie as tie

@@ -3,9 +3,9 @@ use mathlib.Core.Path.{_≡_, sym, ap, _∙_}
 use native.Mathlib.Omega.{arith}
 use borrow.Author.Needs.{needs}
 use Rattle.numbers.specs.Answer.{answered}
-use Rattle.runs.specs.Packed.{Given}
-use Rattle.packer.specs.Given.{found, checkAnswer}
-use Rattle.packer.proofs.Given.{check-given}
+use Rattle.runs.specs.PackedList.{PackableRun}
+use Rattle.packer.specs.Checks.{found, checkAnswer}
+use Rattle.packer.proofs.Checks.{check-given}
 use Rattle.packer.proofs.Packs.{pack-refused, pack-room}
 use Rattle.packer.proofs.pack.Statement.{statement}
 use Rattle.packer.proofs.pack.Tie as tie
@@ -31,7 +31,7 @@ start c = c .before .before .before .before .before .before .before
 fine : (c : tie.After-enum-told) → checkAnswer (start c .args .ids .now) (start c .args .masks .now) (start c .args .values .now) ≡ answered 0
 fine c = sym (c .before .before .check .ensures) ∙ ap found (c .enum-told .given .1)
 
-given : (c : tie.After-enum-told) → Given (start c .args .ids .now) (start c .args .masks .now) (start c .args .values .now)
+given : (c : tie.After-enum-told) → PackableRun (start c .args .ids .now) (start c .args .masks .now) (start c .args .values .now)
 given c = check-given _ _ _ 0 (fine c)
 
 slice-aggregate-fill : tie.Need-slice-aggregate-fill

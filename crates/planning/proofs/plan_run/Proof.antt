@@ -10,7 +10,7 @@ use lib.ListN.{length, getD, drop, length-set, length-drop}
 use borrow.Author.Needs.{needs}
 use Rattle.words.specs.Writes.{Write}
 use Rattle.runs.specs.Span.{chain}
-use Rattle.runs.specs.Packed.{writes}
+use Rattle.runs.specs.PackedList.{writes}
 use Rattle.runs.proofs.Chain.{chain-fits}
 use Rattle.runs.proofs.Writes.{writes-length}
 use Rattle.planning.proofs.Plans.{chain-linked, chain-on, chain-apart, step-two, run-some, run-longer, Run, least-small, ends-more, Kept, kept-none, kept-more, run-span, run-longest, Right, choice-right}

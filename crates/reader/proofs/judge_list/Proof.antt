@@ -8,7 +8,7 @@ use Rattle.words.specs.Header.{maskOf}
 use Rattle.words.specs.Writes.{faultOf}
 use Rattle.words.specs.Commands.{headerAt, run, expand, commands}
 use Rattle.words.proofs.Heads.{Whole, whole-of, short-of}
-use Rattle.reader.specs.Verdict.{firstFault, judge, verdict}
+use Rattle.reader.specs.ListVerdict.{firstFault, judge, verdict}
 use Rattle.reader.specs.Clear.{lastId, clear}
 use Rattle.reader.proofs.Judging.{deciding-most, run-none, run-good, run-bad, deciding-fault, judge-end, judge-short, judge-fault, judge-pass, verdict-of}
 use Rattle.reader.proofs.judge_list.Statement.{statement}

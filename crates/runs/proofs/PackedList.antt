@@ -10,7 +10,7 @@ use Rattle.cuts.proofs.Rests.{by-rests}
 use Rattle.cuts.proofs.Steps.{first-of, least-nil, least-of, sizes-nil, sizes-of}
 use Rattle.cuts.proofs.Least.{least-short}
 use Rattle.runs.specs.Span.{span}
-use Rattle.runs.specs.Packed.{command, OneCommand, packed}
+use Rattle.runs.specs.PackedList.{command, OneCommand, packed}
 use Rattle.runs.proofs.Chain.{spans, span-cap}
 use Rattle.runs.proofs.Command.{command-length}
 

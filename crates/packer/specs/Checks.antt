@@ -5,10 +5,9 @@ use Prim.Native.Nat.{ℕ, _+_}
 use lib.Dec.{ltb, leb, eqb}
 use lib.ListN.{length}
 use Rattle.numbers.specs.Pick.{pick}
-use Rattle.numbers.specs.Answer.{Answer, answered, refused}
+use Rattle.numbers.specs.Answer.{Answer, answered, refused, unlessFault}
 use Rattle.words.specs.Writes.{Write, faultOf}
-use Rattle.reader.specs.Verdict.{unlessFault}
-use Rattle.runs.specs.Packed.{writes}
+use Rattle.runs.specs.PackedList.{writes}
 use Rattle.packer.specs.declared.Checked.{Checked}
 use Rattle.packer.specs.declared.Checked.the-variants.{Fine, Refused}
 

@@ -1,11 +1,11 @@
 -- The verdict on a list: commands in order, each 2 first and then its writes; the first write at fault ends the reading.
 use mathlib.Core.Bool.{Bool, true, false, _&&_}
 use mathlib.Core.List.{List, [], _∷_}
-use Prim.Native.Nat.{ℕ, zero, suc, _+_}
+use Prim.Native.Nat.{ℕ, _+_}
 use lib.Dec.{eqb}
 use lib.ListN.{length}
 use Rattle.numbers.specs.Pick.{pick}
-use Rattle.numbers.specs.Answer.{Answer, answered, refused}
+use Rattle.numbers.specs.Answer.{Answer, answered, unlessFault}
 use Rattle.words.specs.Writes.{Write, faultOf, allowed}
 use Rattle.words.specs.Commands.{whole, expand, commands}
 
@@ -18,12 +18,7 @@ firstFault (w ∷ ws) = let rest = firstFault ws in pick (eqb (faultOf (w .id) (
 abbrev pub commandFault : List ℕ → ℕ → ℕ
 commandFault l p = pick (whole l p) (firstFault (expand l p)) 2
 
--- a fault refuses with its number at a place, a command's first word; without one the rest decides
-abbrev pub unlessFault : ℕ → ℕ → Answer → Answer
-unlessFault zero p rest = rest
-unlessFault (suc f) p rest = refused (suc f) p
-
--- the commands at these places, after n writes
+-- the commands at these places, after n writes: a fault refuses at its command's first word
 unfoldable pub judge : List ℕ → List ℕ → ℕ → Answer
 judge l [] n = answered n
 judge l (p ∷ ps) n = let rest = judge l ps (n + length (expand l p)) in unlessFault (commandFault l p) p rest

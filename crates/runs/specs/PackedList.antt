@@ -26,7 +26,7 @@ Packable [] = Unit {0}
 Packable (w ∷ l) = (w .mask ≤ 15) × (allowed (w .id) (w .mask) ≡ true) × Packable l
 
 -- writes that are not refused: buffers of one length, no more than 4,096 writes, each of them allowed with a mask of at most 15
-pub record Given (is ms vs : List ℕ) : Type 0 where
+pub record PackableRun (is ms vs : List ℕ) : Type 0 where
   pub masks : length is ≡ length ms
   pub values : length is ≡ length vs
   pub few : length is ≤ 4096

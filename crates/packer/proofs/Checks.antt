@@ -8,14 +8,14 @@ use lib.Dec.{ltb, leb, eqb}
 use lib.ListN.{length, getD, drop, drop-of-length-le}
 use borrow.Author.Tests.{eqb-true, leb-true, le-leb, lt-leb, ltb-false, le-ltb, eq-eqb}
 use Rattle.numbers.specs.Pick.{pick}
-use Rattle.numbers.specs.Answer.{Answer, answered, refused}
+use Rattle.numbers.specs.Answer.{Answer, answered, refused, unlessFault}
 use Rattle.numbers.proofs.Tests.{and-true}
+use Rattle.numbers.proofs.Answers.{told-apart, unless-refuses, unless-answered}
 use Rattle.words.specs.Writes.{Write, faultOf, allowed}
 use Rattle.words.proofs.Laws.{allowed-fault}
-use Rattle.reader.specs.Verdict.{unlessFault}
-use Rattle.runs.specs.Packed.{writes, Packable, Given}
+use Rattle.runs.specs.PackedList.{writes, Packable, PackableRun}
 use Rattle.runs.proofs.Writes.{writes-length, writes-at}
-use Rattle.packer.specs.Given.{wrong, firstWrong, checkAnswer}
+use Rattle.packer.specs.Checks.{wrong, firstWrong, checkAnswer}
 
 -- three buffers of one length
 abbrev pub level : List ℕ → List ℕ → List ℕ → Bool
@@ -45,10 +45,6 @@ module _ (is ms vs : List ℕ) where
 
 -- WRITE BY WRITE
 
-fault-refuses : (f p : ℕ) (rest : Answer) → (f ≡ 0 → ⊥) → unlessFault f p rest ≡ refused f p
-fault-refuses zero p rest h = absurd (h refl)
-fault-refuses (suc f) p rest h = refl
-
 module _ (is ms vs : List ℕ) (i : ℕ) (e : level is ms vs ≡ true) where
   one-more : i < length is
       → firstWrong i (drop i (writes is ms vs))
@@ -62,7 +58,7 @@ module _ (is ms vs : List ℕ) (i : ℕ) (e : level is ms vs ≡ true) where
 
   pub wrong-here : i < length is → (f : ℕ) → f ≡ wrong (getD is i 0) (getD ms i 0) → (f ≡ 0 → ⊥)
       → firstWrong i (drop i (writes is ms vs)) ≡ refused f i
-  wrong-here h f p q = one-more h ∙ rw (← p) (fault-refuses f i _ q)
+  wrong-here h f p q = one-more h ∙ rw (← p) (unless-refuses f i _ q)
 
   pub wrong-end : length is ≤ i → firstWrong i (drop i (writes is ms vs)) ≡ answered 0
   unfolding firstWrong
@@ -72,10 +68,6 @@ module _ (is ms vs : List ℕ) (i : ℕ) (e : level is ms vs ≡ true) where
       rw (drop-of-length-le (writes is ms vs) {i = i} (omega arith))
 
 -- WRITES THAT ARE NOT REFUSED
-
-unless-answered : (f p n : ℕ) (rest : Answer) → unlessFault f p rest ≡ answered n → (f ≡ 0) × (rest ≡ answered n)
-unless-answered zero p n rest e = (refl, e)
-unless-answered (suc f) p n rest e = absurd (let z : _≡_ {A = ℕ} 0 1 = cc in omega arith)
 
 not-wrong : (i m : ℕ) (b : Bool) → ltb 15 m ≡ b → pick b 9 (faultOf i m) ≡ 0 → (m ≤ 15) × (allowed i m ≡ true)
 not-wrong i m true t e = absurd (omega arith)
@@ -98,19 +90,19 @@ packable-wrong i (w ∷ ws) p =
 
 module _ (is ms vs : List ℕ) where
   by-tests : (n : ℕ) (a b : Bool) → level is ms vs ≡ a → leb (length is) 4096 ≡ b
-      → pick a (pick b (firstWrong 0 (writes is ms vs)) (refused 8 0)) (refused 7 0) ≡ answered n → Given is ms vs
+      → pick a (pick b (firstWrong 0 (writes is ms vs)) (refused 8 0)) (refused 7 0) ≡ answered n → PackableRun is ms vs
   by-tests n true true t u e =
       let l = level-lengths is ms vs t in
       record { masks = l .0; values = l .1; few = leb-true _ _ u; packable = wrong-packable 0 n (writes is ms vs) e }
-  by-tests n true false t u e = absurd (let z : _≡_ {A = ℕ} 0 1 = cc in omega arith)
-  by-tests n false b t u e = absurd (let z : _≡_ {A = ℕ} 0 1 = cc in omega arith)
+  by-tests n true false t u e = absurd (told-apart (sym e))
+  by-tests n false b t u e = absurd (told-apart (sym e))
 
   -- no refusal says that the writes can be packed
-  pub check-given : (n : ℕ) → checkAnswer is ms vs ≡ answered n → Given is ms vs
+  pub check-given : (n : ℕ) → checkAnswer is ms vs ≡ answered n → PackableRun is ms vs
   unfolding checkAnswer
   check-given n e = by-tests n (level is ms vs) (leb (length is) 4096) refl refl e
 
   -- and writes that can be packed are not refused
-  pub given-check : Given is ms vs → checkAnswer is ms vs ≡ answered 0
+  pub given-check : PackableRun is ms vs → checkAnswer is ms vs ≡ answered 0
   given-check G =
       check-writes is ms vs (lengths-level is ms vs (G .masks) (G .values)) (G .few) ∙ packable-wrong 0 (writes is ms vs) (G .packable)
