@@ -7,3 +7,6 @@ pub mod RoundTrip
 pub mod Shortest
 pub mod Only
 pub mod Writes
+pub mod Each
+pub mod Words32
+pub mod Seams
