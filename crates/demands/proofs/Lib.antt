@@ -2,6 +2,12 @@ pub mod Unheld
 pub mod Alike
 pub mod NeverRead
 pub mod Reading
+pub mod Refusals
+pub mod RunRefusals
+pub mod Said
 pub mod Packing
+pub mod Seams
 pub mod Examples
 pub mod Drawing
+pub mod Calls
+pub mod EndToEnd

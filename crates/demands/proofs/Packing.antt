@@ -1,13 +1,16 @@
 -- DEMAND 3, and demand 2 of a packed list, over what the reader accepts. Assumes nothing.
-use mathlib.Core.Path.{_≡_, refl, ap, _∙_}
+use mathlib.Core.Path.{_≡_, refl, sym, ap, _∙_}
 use mathlib.Core.Bool.{Bool, true, false}
 use mathlib.Core.List.{List, _++_}
+use mathlib.Core.Logic.{_⊎_, inl, inr, ⊎-elim}
 use Prim.Native.Nat.{ℕ, _*_, _≤_, _<_}
+use native.Mathlib.Decide.{decLt}
 use native.Mathlib.Omega.{arith}
 use lib.Dec.{leb}
 use lib.ListN.{length, drop}
 use Rattle.numbers.specs.Pick.{pick}
 use Rattle.numbers.specs.Answer.{Answer, answered, refused}
+use Rattle.numbers.proofs.Answers.{told-apart, number-one}
 use Rattle.words.specs.Writes.{Write}
 use Rattle.words.specs.Commands.{expansion}
 use Rattle.registers.specs.State.{State, sized}
@@ -16,17 +19,23 @@ use Rattle.reader.specs.ListVerdict.{verdict}
 use Rattle.reader.specs.Read.{readAnswer, readState}
 use Rattle.reader.proofs.Accepted.{verdict-accepted}
 use Rattle.runs.specs.PackedList.{writes, PackableRun, packed}
-use Rattle.runs.specs.Shortest.{Says, Shortest}
+use Rattle.runs.specs.Shortest.{Shortest}
 use Rattle.runs.proofs.Writes.{writes-length}
-use Rattle.packer.specs.Packing.{packAnswer, spaceAfter, packSpace}
-use Rattle.packer.proofs.Demand.{pack-fits, pack-short, no-room-only, given-shortest}
+use Rattle.runs.proofs.Shortest.{says-of, packed-shortest}
+use Rattle.packer.specs.Checks.{checkAnswer}
+use Rattle.packer.specs.Packing.{ifRoom, andThen, packAnswer, spaceAfter, packSpace}
+use Rattle.packer.proofs.Checks.{check-given, given-check}
+use Rattle.packer.proofs.Packs.{pack-room, room-enough, room-short}
+use Rattle.demands.specs.Said.{Said}
 use Rattle.demands.proofs.Reading.{accepted, leaves}
+use Rattle.demands.proofs.RunRefusals.{check-refused, run-below}
+use Rattle.demands.proofs.Said.{said-packable, packable-said}
 
 -- a list that a state accepts has a verdict that accepts
 by-tests : (l : List ℕ) (n : ℕ) (a b : Bool) → pick a (pick b (verdict l) (refused 1 0)) (refused 6 0) ≡ answered n → verdict l ≡ answered n
 by-tests l n true true e = e
-by-tests l n true false e = absurd (let z : _≡_ {A = ℕ} 0 1 = cc in omega arith)
-by-tests l n false b e = absurd (let z : _≡_ {A = ℕ} 0 1 = cc in omega arith)
+by-tests l n true false e = absurd (told-apart (sym e))
+by-tests l n false b e = absurd (told-apart (sym e))
 
 read-verdict : (s : State) (l : List ℕ) (n : ℕ) → readAnswer s l ≡ answered n → verdict l ≡ answered n
 unfolding readAnswer
@@ -34,55 +43,97 @@ read-verdict s l n e = by-tests l n (sized s) (leb (length l) 65536) e
 
 -- "No lent memory changes on any refusal"
 kept : (a : Answer) (l old : List ℕ) (n p : ℕ) → a ≡ refused n p → spaceAfter a l old ≡ old
-kept (answered m) l old n p e = absurd (let z : _≡_ {A = ℕ} 0 1 = cc in omega arith)
+kept (answered m) l old n p e = absurd (told-apart e)
 kept (refused m q) l old n p e = refl
 
 pub refused-pack : (is ms vs old : List ℕ) (n p : ℕ) → packAnswer is ms vs (length old) ≡ refused n p → packSpace is ms vs old ≡ old
 refused-pack is ms vs old n p e = kept (packAnswer is ms vs (length old)) (packed (writes is ms vs)) old n p e
 
--- of at most 4,096 allowed writes with masks of at most 15, in three buffers of one length
-module _ (is ms vs : List ℕ) (G : PackableRun is ms vs) where
+-- AN ANSWER goes by the writes, and then by the room
+module _ (is ms vs : List ℕ) where
+  abbrev list : List ℕ
+  list = packed (writes is ms vs)
+
+  -- either the writes can be packed, or the refusal is one of the writes
+  abbrev ByRoom : ℕ → Answer → Type 0
+  ByRoom room a = PackableRun is ms vs × (ifRoom list room ≡ a)
+
+  from-check : (room : ℕ) (a b : Answer) → checkAnswer is ms vs ≡ b → andThen b (ifRoom list room) ≡ a
+      → ByRoom room a ⊎ ((n : ℕ) × (p : ℕ) × (a ≡ refused n p) × (n < 10))
+  from-check room a (answered m) c e = inl (check-given is ms vs m c, e)
+  from-check room a (refused m p) c e = inr (m, p, sym e, run-below is ms vs m p (check-refused is ms vs m p c))
+
+  cases : (room : ℕ) (a : Answer) → packAnswer is ms vs room ≡ a
+      → ByRoom room a ⊎ ((n : ℕ) × (p : ℕ) × (a ≡ refused n p) × (n < 10))
+  unfolding packAnswer
+  cases room a e = from-check room a (checkAnswer is ms vs) refl e
+
+  enough : (room n : ℕ) → ifRoom list room ≡ answered n → Dec (room < length list) → (n ≡ length list) × (n ≤ room)
+  enough room n e (yes h) = absurd (told-apart (sym (room-short list room _ refl h ∙ e)))
+  enough room n e (no h) =
+      let r = room-enough list room _ refl (omega arith) in let z : n ≡ length list = cc in (z, omega arith)
+
+  lacking : (room n : ℕ) → ifRoom list room ≡ refused 10 n → Dec (room < length list) → (n ≡ length list) × (room < n)
+  lacking room n e (yes h) = let r = room-short list room _ refl h in let z : n ≡ length list = cc in (z, omega arith)
+  lacking room n e (no h) = absurd (told-apart (room-enough list room _ refl (omega arith) ∙ e))
+
+  -- an answer is the length of the packed list, for which there is room, and the run is one that an accepted list says
+  pub answered-then : (room n : ℕ) → packAnswer is ms vs room ≡ answered n → PackableRun is ms vs × (n ≡ length list) × (n ≤ room)
+  answered-then room n e =
+      ⊎-elim (λ g. let r = enough room n (g .1) (decLt room (length list)) in (g .0, r .0, r .1))
+      (λ x. absurd (told-apart (x .2))) (cases room (answered n) e)
+
+  -- "no room" is said for its length, for which there is none
+  pub no-room-then : (room n : ℕ) → packAnswer is ms vs room ≡ refused 10 n → PackableRun is ms vs × (n ≡ length list) × (room < n)
+  no-room-then room n e =
+      ⊎-elim (λ g. let r = lacking room n (g .1) (decLt room (length list)) in (g .0, r .0, r .1))
+      (λ x. absurd (omega (arith, x .3, number-one (x .2)))) (cases room (refused 10 n) e)
+
+-- a run that is packed, or for which there is no room, is one that some accepted list says
+pub given-said : (is ms vs : List ℕ) → PackableRun is ms vs → Said (writes is ms vs)
+given-said is ms vs G =
+    packable-said (writes is ms vs) (omega (arith, writes-length is ms vs (G .masks) (G .values), G .few)) (G .packable)
+
+-- THE DEMAND: of at most 4,096 writes, in three buffers of one length, that some accepted list says
+module _ (is ms vs : List ℕ) (level : (length is ≡ length ms) × (length is ≡ length vs)) (few : length is ≤ 4096)
+    (said : Said (writes is ms vs)) where
   abbrev ws : List Write
   ws = writes is ms vs
 
-  many : length ws ≤ 4096
-  many = omega (arith, writes-length is ms vs (G .masks) (G .values), G .few)
+  pub given : PackableRun is ms vs
+  given = record { masks = level .0; values = level .1; few = few; packable = said-packable ws said }
 
   best : Shortest ws (packed ws)
-  best = given-shortest is ms vs G
+  best = packed-shortest ws (given .packable)
+
+  pub short : length (packed ws) ≤ 65536
+  short = omega (arith, best .short, few, writes-length is ms vs (level .0) (level .1))
 
   -- "A packed list reads back as the writes that were given": any state accepts it, with their number, and it leaves what they leave
   pub reads-back : (s : State) → sized s ≡ true
       → (readAnswer s (packed ws) ≡ answered (length ws)) × (expansion (packed ws) ≡ ws) × (readState s (packed ws) ≡ applyAll s ws)
   reads-back s e =
-      let h : length (packed ws) ≤ 65536 = omega (arith, best .short, many) in
       let v = verdict-accepted (packed ws) (length ws) (best .says .accepted) in
       let x = best .says .writes in
-      let a : readAnswer s (packed ws) ≡ answered (length ws) = accepted s (packed ws) e h (v .0) (v .1) ∙ ap (λ (l : List Write). answered (length l)) x in
-      (a, x, leaves s (packed ws) e h (length ws) a ∙ ap (λ (l : List Write). applyAll s l) x)
+      let a : readAnswer s (packed ws) ≡ answered (length ws) =
+      accepted s (packed ws) e short (v .0) (v .1) ∙ ap (λ (l : List Write). answered (length l)) x in
+      (a, x, leaves s (packed ws) e short (length ws) a ∙ ap (λ (l : List Write). applyAll s l) x)
 
   -- "the packer's list has exactly that expansion, and no accepted list with that expansion has fewer words"
   pub no-fewer : (s : State) (l : List ℕ) (n : ℕ) → readAnswer s l ≡ answered n → expansion l ≡ ws → length (packed ws) ≤ length l
-  no-fewer s l n a x = best .least l (says s l n a x)
-    where
-      says : (s : State) (l : List ℕ) (n : ℕ) → readAnswer s l ≡ answered n → expansion l ≡ ws → Says ws l
-      says s l n a x =
-          let v = read-verdict s l n a in
-          let c = verdict-accepted l n v .2 ∙ ap (λ (k : List Write). length k) x in
-          record { accepted = v ∙ ap answered c; writes = x }
+  no-fewer s l n a x = best .least l (says-of ws l n (read-verdict s l n a) x)
 
   -- "Never longer than two words a write"
   pub two-a-write : length (packed ws) ≤ 2 * length ws
   two-a-write = best .short
 
   -- ""No room" always and only when the lent space is shorter than that, with the words needed"
-  pub no-room : (old : List ℕ) → length old < length (packed ws) → packAnswer is ms vs (length old) ≡ refused 10 (length (packed ws))
-  no-room old h = pack-short is ms vs G old h .0
-
   pub room : (old : List ℕ) → length (packed ws) ≤ length old
       → (packAnswer is ms vs (length old) ≡ answered (length (packed ws))) × (packSpace is ms vs old ≡ packed ws ++ drop (length (packed ws)) old)
-  room old h = pack-fits is ms vs G old h
+  room old h =
+      let r = pack-room is ms vs old 0 _ _ (given-check is ms vs given) (room-enough (packed ws) (length old) _ refl h) refl in
+      (sym (r .0), sym (r .1))
 
-pub no-room-then : (is ms vs : List ℕ) (n m : ℕ) → packAnswer is ms vs n ≡ refused 10 m
-    → PackableRun is ms vs × (m ≡ length (packed (writes is ms vs))) × (n < m)
-no-room-then = no-room-only
+  pub no-room : (old : List ℕ) → length old < length (packed ws) → packAnswer is ms vs (length old) ≡ refused 10 (length (packed ws))
+  no-room old h =
+      sym (pack-room is ms vs old 0 _ _ (given-check is ms vs given) (room-short (packed ws) (length old) _ refl h) refl .0)

@@ -1,12 +1,11 @@
 -- DEMANDS 1 AND 2 of a list that is read, and of a single write. Assumes nothing.
-use mathlib.Core.Path.{_≡_, refl, sym, _∙_}
-use mathlib.Core.Bool.{Bool, true, false}
+use mathlib.Core.Path.{_≡_, sym, _∙_}
+use mathlib.Core.Bool.{true}
 use mathlib.Core.List.{List}
 use Prim.Native.Nat.{ℕ, _≤_}
-use native.Mathlib.Omega.{arith}
 use lib.ListN.{length}
 use borrow.Author.Tests.{le-leb}
-use Rattle.numbers.specs.Answer.{Answer, answered, refused}
+use Rattle.numbers.specs.Answer.{answered, refused}
 use Rattle.words.specs.Writes.{Write}
 use Rattle.words.specs.Commands.{expansion, wellFormed}
 use Rattle.registers.specs.State.{State, sized}
@@ -14,7 +13,7 @@ use Rattle.registers.specs.Applied.{applyAll}
 use Rattle.registers.specs.Single.{writeAnswer, writeState}
 use Rattle.registers.proofs.Laws.{refused-keeps}
 use Rattle.reader.specs.ListVerdict.{verdict, allAllowed}
-use Rattle.reader.specs.Read.{readAnswer, readState, ifAnswered}
+use Rattle.reader.specs.Read.{readAnswer, readState}
 use Rattle.reader.proofs.Accepted.{verdict-accepted, verdict-accepts}
 
 -- "A refused list leaves all three buffers as they were, also when its last command is the bad one."

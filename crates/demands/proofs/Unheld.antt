@@ -2,7 +2,7 @@
 use mathlib.Core.Path.{_≡_, refl, sym, ap, _∙_}
 use mathlib.Core.Bool.{Bool, true, false, not, _||_, false≢true}
 use mathlib.Core.List.{List, [], _∷_}
-use Prim.Native.Nat.{ℕ, zero, suc, _+_, _-_, _*_, _/_, _%_, _^_, _<_, _≤_}
+use Prim.Native.Nat.{ℕ, _+_, _-_, _/_, _^_, _<_, _≤_}
 use native.Mathlib.Nat.{div-div-eq-div-mul}
 use native.Mathlib.Decide.{decLt}
 use native.Mathlib.Omega.{arith}
@@ -13,7 +13,7 @@ use lib.ListN.{length, getD, set, replicate, length-replicate}
 use lib.Pow.{pow-add}
 use lib.Seq.{getD-set-same, getD-set-other, set-out}
 use Rattle.numbers.specs.Pick.{pick}
-use Rattle.numbers.specs.Bits.{bit, spread, merge, pickBit}
+use Rattle.numbers.specs.Bits.{bit, spread, merge}
 use Rattle.numbers.proofs.Tests.{is-true}
 use Rattle.numbers.proofs.Table.{at}
 use Rattle.numbers.proofs.Merge.{and-bit, merge-bit}

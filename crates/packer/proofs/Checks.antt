@@ -2,13 +2,13 @@
 use mathlib.Core.Path.{_≡_, refl, sym, _∙_}
 use mathlib.Core.Bool.{Bool, true, false, _&&_}
 use mathlib.Core.List.{List, [], _∷_}
-use Prim.Native.Nat.{ℕ, zero, suc, _+_, _≤_, _<_}
+use Prim.Native.Nat.{ℕ, _+_, _≤_, _<_}
 use native.Mathlib.Omega.{arith}
 use lib.Dec.{ltb, leb, eqb}
 use lib.ListN.{length, getD, drop, drop-of-length-le}
 use borrow.Author.Tests.{eqb-true, leb-true, le-leb, lt-leb, ltb-false, le-ltb, eq-eqb}
 use Rattle.numbers.specs.Pick.{pick}
-use Rattle.numbers.specs.Answer.{Answer, answered, refused, unlessFault}
+use Rattle.numbers.specs.Answer.{answered, refused, unlessFault}
 use Rattle.numbers.proofs.Tests.{and-true}
 use Rattle.numbers.proofs.Answers.{told-apart, unless-refuses, unless-answered}
 use Rattle.words.specs.Writes.{Write, faultOf, allowed}

@@ -1,4 +1,3 @@
 pub mod Checks
 pub mod Packs
-pub mod Demand
 pub mod Once

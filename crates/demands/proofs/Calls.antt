@@ -1,0 +1,68 @@
+-- Calls of the functions, as their contracts have them: `Post` is the reading of a contract that the prover made and proved of the code. A record
+-- below says that a call which is lent this may answer and leave that; what is then known follows from `Post` alone. Assumes nothing.
+use mathlib.Core.Path.{_≡_}
+use mathlib.Core.List.{List}
+use Prim.Native.Nat.{ℕ}
+use lib.ListN.{length}
+use contract.Lifetimes.{Lfts}
+use borrow.Fn.Kinds.{Dens, endedOf}
+use denote.Ref.{now}
+use denote.Triple.Clauses.{AtExit}
+use Rattle.words.specs.Writes.{Write, writing}
+use Rattle.registers.specs.State.{State, st}
+use Rattle.registers.specs.Single.{told as write-told, writeAnswer, writeState}
+use Rattle.registers.specs.declared.Written.{Written}
+use Rattle.registers.proofs.write.Reads as write
+use Rattle.registers.proofs.write.Kinds as write-kinds
+use Rattle.reader.specs.Read.{told as read-told, readAnswer, readState}
+use Rattle.reader.specs.declared.ListVerdict.{ListVerdict}
+use Rattle.reader.proofs.read.Reads as read
+use Rattle.reader.proofs.read.Kinds as read-kinds
+use Rattle.packer.specs.Packing.{told as pack-told, packAnswer, packSpace}
+use Rattle.packer.specs.declared.Packed.{Packed}
+use Rattle.packer.proofs.pack.Reads as pack
+use Rattle.packer.proofs.pack.Kinds as pack-kinds
+
+-- `registers::write`, lent the state s, for the write w
+pub record WriteCall (s : State) (w : Write) (answer : Written) (t : State) : Type 0 where
+  pub lifetimes : Lfts 3
+  pub lent : Dens lifetimes write-kinds.ps
+  pub left : AtExit (endedOf 3 write-kinds.ps write-kinds.r) lifetimes
+  pub promise : write.Post lifetimes lent answer left
+  pub state : st (now (lent .0)) (now (lent .1 .0)) (now (lent .1 .1 .0)) ≡ s
+  pub given : writing (lent .1 .1 .1 .0) (lent .1 .1 .1 .1 .0) (lent .1 .1 .1 .1 .1 .0) ≡ w
+  pub after : st (now (left .0)) (now (left .1 .0)) (now (left .1 .1 .0)) ≡ t
+
+-- `reader::read`, lent the state s and the list l
+pub record ReadCall (s : State) (l : List ℕ) (answer : ListVerdict) (t : State) : Type 0 where
+  pub lifetimes : Lfts 4
+  pub lent : Dens lifetimes read-kinds.ps
+  pub left : AtExit (endedOf 4 read-kinds.ps read-kinds.r) lifetimes
+  pub promise : read.Post lifetimes lent answer left
+  pub state : st (now (lent .0)) (now (lent .1 .0)) (now (lent .1 .1 .0)) ≡ s
+  pub list : now (lent .1 .1 .1 .0) ≡ l
+  pub after : st (now (left .0)) (now (left .1 .0)) (now (left .1 .1 .0)) ≡ t
+
+-- `packer::pack`, lent ids, masks and values, and the space
+pub record PackCall (is ms vs old : List ℕ) (answer : Packed) (new : List ℕ) : Type 0 where
+  pub lifetimes : Lfts 4
+  pub lent : Dens lifetimes pack-kinds.ps
+  pub left : AtExit (endedOf 4 pack-kinds.ps pack-kinds.r) lifetimes
+  pub promise : pack.Post lifetimes lent answer left
+  pub ids : now (lent .0) ≡ is
+  pub masks : now (lent .1 .0) ≡ ms
+  pub values : now (lent .1 .1 .0) ≡ vs
+  pub space : now (lent .1 .1 .1 .0) ≡ old
+  pub after : now (left .1 .1 .1 .0) ≡ new
+
+-- WHAT EACH IS THEN KNOWN TO ANSWER AND TO LEAVE
+
+pub write-call : {s t : State} {w : Write} {a : Written} → WriteCall s w a t → (write-told a ≡ writeAnswer s w) × (t ≡ writeState s w)
+write-call c = rw (← c .state, ← c .given, ← c .after) (c .promise)
+
+pub read-call : {s t : State} {l : List ℕ} {a : ListVerdict} → ReadCall s l a t → (read-told a ≡ readAnswer s l) × (t ≡ readState s l)
+read-call c = rw (← c .state, ← c .list, ← c .after) (c .promise)
+
+pub pack-call : {is ms vs old new : List ℕ} {a : Packed} → PackCall is ms vs old a new
+    → (pack-told a ≡ packAnswer is ms vs (length old)) × (new ≡ packSpace is ms vs old)
+pack-call c = rw (← c .ids, ← c .masks, ← c .values, ← c .space, ← c .after) (c .promise)

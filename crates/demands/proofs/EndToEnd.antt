@@ -1,0 +1,183 @@
+-- THE DEMANDS OF THE FUNCTIONS, from their contracts alone: what is known of every answer that a call may give and of all that it may leave. Who
+-- trusts nothing else starts here. Assumes nothing.
+use mathlib.Core.Path.{_≡_, refl, sym, ap, _∙_}
+use mathlib.Core.Bool.{Bool, true, false}
+use mathlib.Core.List.{List}
+use mathlib.Core.Logic.{_⊎_, inl, inr}
+use Prim.Native.Nat.{ℕ, zero, suc, _≤_, _<_}
+use native.Mathlib.Decide.{decLe}
+use native.Mathlib.Omega.{arith}
+use lib.Dec.{leb}
+use lib.ListN.{length, take, drop}
+use lib.Seq.{take-at, drop-at}
+use borrow.Author.Tests.{leb-true}
+use Rattle.numbers.specs.Pick.{pick}
+use Rattle.numbers.specs.Answer.{answered, refused}
+use Rattle.numbers.proofs.Answers.{told-apart}
+use Rattle.words.specs.Writes.{Write}
+use Rattle.words.specs.Commands.{expansion, wellFormed}
+use Rattle.words.specs.declared.Refusal.{Refusal}
+use Rattle.registers.specs.State.{State, sized}
+use Rattle.registers.specs.Applied.{apply, applyAll}
+use Rattle.registers.specs.Single.{refusalOf, atZero, unless}
+use Rattle.registers.specs.declared.Written.the-variants as written
+use Rattle.reader.specs.ListVerdict.{verdict, allAllowed}
+use Rattle.reader.specs.Read.{readAnswer, readState}
+use Rattle.reader.specs.declared.ListVerdict.{ListVerdict}
+use Rattle.reader.specs.declared.ListVerdict.the-variants as list-verdict
+use Rattle.reader.proofs.Once.{told-one}
+use Rattle.runs.specs.PackedList.{writes, packed}
+use Rattle.runs.specs.Shortest.{Says, Shortest}
+use Rattle.runs.proofs.Writes.{writes-length}
+use Rattle.runs.proofs.Shortest.{packed-shortest}
+use Rattle.packer.specs.declared.Packed.{Packed}
+use Rattle.packer.specs.declared.Packed.the-variants as packer
+use Rattle.packer.proofs.Once.{told-one as pack-told-one}
+use Rattle.demands.specs.Said.{Said}
+use Rattle.demands.specs.Refusals.{ReadRefused, WriteRefused, PackRefused}
+use Rattle.demands.proofs.Calls.{WriteCall, ReadCall, PackCall, write-call, read-call, pack-call}
+use Rattle.demands.proofs.Reading.{refused-list, refused-write, accepted, accepted-only, leaves}
+use Rattle.demands.proofs.Refusals.{write-refused, read-refused}
+use Rattle.demands.proofs.RunRefusals.{pack-refused}
+use Rattle.demands.proofs.Said.{said-packable}
+use Rattle.demands.proofs.Packing.{refused-pack, answered-then, given-said, reads-back, room, no-room}
+
+-- DEMAND 1: "Every entry point answers, or refuses by a number of the table. A refused list leaves all three buffers as they were."
+
+pub write-refuses : {s t : State} {w : Write} {why : Refusal} → WriteCall s w (written.Refused why) t
+    → (t ≡ s) × WriteRefused s w (why .number) (why .place)
+write-refuses {s} {t} {w} {why} c =
+    let k = write-call c in
+    (k .1 ∙ refused-write s w (why .number) (why .place) (sym (k .0)), write-refused s w (why .number) (why .place) (sym (k .0)))
+
+pub read-refuses : {s t : State} {l : List ℕ} {why : Refusal} → ReadCall s l (list-verdict.Refused why) t
+    → (t ≡ s) × ReadRefused s l (why .number) (why .place)
+read-refuses {s} {t} {l} {why} c =
+    let k = read-call c in
+    (k .1 ∙ refused-list s l (why .number) (why .place) (sym (k .0)), read-refused s l (why .number) (why .place) (sym (k .0)))
+
+pub pack-refuses : {is ms vs old new : List ℕ} {why : Refusal} → PackCall is ms vs old (packer.Refused why) new
+    → (new ≡ old) × PackRefused is ms vs (length old) (why .number) (why .place)
+pack-refuses {is} {ms} {vs} {old} {new} {why} c =
+    let k = pack-call c in
+    let e = sym (k .0) in
+    (k .1 ∙ refused-pack is ms vs old (why .number) (why .place) e, pack-refused is ms vs (length old) (why .number) (why .place) e)
+
+-- DEMAND 2: "A list is accepted exactly when it is well formed and each write is allowed; what it leaves is what its expansion leaves, one masked
+-- write after another."
+
+-- a list that can be read, and is to be accepted
+pub record Acceptable (s : State) (l : List ℕ) : Type 0 where
+  pub lengths : sized s ≡ true
+  pub short : length l ≤ 65536
+  pub form : wellFormed l ≡ true
+  pub writes : allAllowed (expansion l) ≡ true
+
+by-tests : (s : State) (l : List ℕ) (n : ℕ) (a b : Bool) → sized s ≡ a → leb (length l) 65536 ≡ b
+    → pick a (pick b (verdict l) (refused 1 0)) (refused 6 0) ≡ answered n → (sized s ≡ true) × (length l ≤ 65536)
+by-tests s l n true true t u e = (t, leb-true _ _ u)
+by-tests s l n true false t u e = absurd (told-apart (sym e))
+by-tests s l n false b t u e = absurd (told-apart (sym e))
+
+tested : (s : State) (l : List ℕ) (n : ℕ) → readAnswer s l ≡ answered n → (sized s ≡ true) × (length l ≤ 65536)
+unfolding readAnswer
+tested s l n e = by-tests s l n (sized s) (leb (length l) 65536) refl refl e
+
+pub read-accepts-only : {s t : State} {l : List ℕ} {n : ℕ} → ReadCall s l (list-verdict.Accepted n) t
+    → Acceptable s l × (n ≡ length (expansion l)) × (t ≡ applyAll s (expansion l))
+read-accepts-only {s} {t} {l} {n} c =
+    let k = read-call c in
+    let e = sym (k .0) in
+    let z = tested s l n e in
+    let a = accepted-only s l (z .0) (z .1) n e in
+    (record { lengths = z .0; short = z .1; form = a .0; writes = a .1 }, a .2, k .1 ∙ leaves s l (z .0) (z .1) n e)
+
+pub read-accepts : {s t : State} {l : List ℕ} {r : ListVerdict} → ReadCall s l r t → Acceptable s l
+    → (r ≡ list-verdict.Accepted (length (expansion l))) × (t ≡ applyAll s (expansion l))
+read-accepts {s} {t} {l} {r} c a =
+    let k = read-call c in
+    let e = accepted s l (a .lengths) (a .short) (a .form) (a .writes) in
+    (told-one r (list-verdict.Accepted (length (expansion l))) (k .0 ∙ e), k .1 ∙ leaves s l (a .lengths) (a .short) _ e)
+
+-- a single write that is done leaves what the write leaves
+by-number : (n : ℕ) (s t u : State) → answered 0 ≡ atZero n → u ≡ unless n t s → (n ≡ 0) × (u ≡ t)
+by-number zero s t u e f = (refl, f)
+by-number (suc n) s t u e f = absurd (told-apart e)
+
+pub write-done : {s t : State} {w : Write} → WriteCall s w written.Done t → t ≡ apply s w
+write-done {s} {t} {w} c = let k = write-call c in by-number (refusalOf s w) s (apply s w) t (k .0) (k .1) .1
+
+-- "A packed list reads back as the writes that were given": what `pack` put into the space, read by `read` into any state
+pub pack-then-read : {is ms vs old new : List ℕ} {n : ℕ} {s t : State} {r : ListVerdict} → PackCall is ms vs old (packer.Words n) new
+    → ReadCall s (take n new) r t → sized s ≡ true → (r ≡ list-verdict.Accepted (length is)) × (t ≡ applyAll s (writes is ms vs))
+pack-then-read {is} {ms} {vs} {old} {new} {n} {s} {t} {r} p c z =
+    let k = pack-call p in
+    let a = answered-then is ms vs (length old) n (sym (k .0)) in
+    let G = a .0 in
+    let level : (length is ≡ length ms) × (length is ≡ length vs) = (G .masks, G .values) in
+    let said = given-said is ms vs G in
+    let fits = room is ms vs level (G .few) said old (omega (arith, a .1, a .2)) in
+    let put : take n new ≡ packed (writes is ms vs) =
+    ap (take n) (k .1 ∙ fits .1) ∙ take-at (packed (writes is ms vs)) _ n (sym (a .1)) in
+    let back = reads-back is ms vs level (G .few) said s z in
+    let q = read-call c in
+    let e = q .0 ∙ ap (readAnswer s) put ∙ back .0 ∙ ap answered (writes-length is ms vs (G .masks) (G .values)) in
+    (told-one r (list-verdict.Accepted (length is)) e, q .1 ∙ ap (readState s) put ∙ back .2)
+
+-- DEMAND 3: "For any run of at most 4,096 allowed writes the packer's list has exactly that expansion, and no accepted list with that expansion has
+-- fewer words. "No room" always and only when the lent space is shorter than that, with the words needed."
+
+-- the list is in the space, shortest, and the space past it is as it was
+pub record PackedInto (ws : List Write) (old new : List ℕ) (n : ℕ) : Type 0 where
+  pub shortest : Shortest ws (take n new)
+  pub words : length (take n new) ≡ n
+  pub rest : drop n new ≡ drop n old
+
+-- there is no room: the space is as it was, and no accepted list that says the run fits it; the shortest has n words
+pub record NoRoom (ws : List Write) (old new : List ℕ) (n : ℕ) : Type 0 where
+  pub kept : new ≡ old
+  pub lacking : length old < n
+  pub least : (l : List ℕ) → Says ws l → n ≤ length l
+  pub met : (l : List ℕ) × Shortest ws l × (length l ≡ n)
+
+module _ {is ms vs old new : List ℕ} {r : Packed} (p : PackCall is ms vs old r new)
+    (level : (length is ≡ length ms) × (length is ≡ length vs)) (few : length is ≤ 4096) (said : Said (writes is ms vs)) where
+  abbrev ws : List Write
+  ws = writes is ms vs
+
+  abbrev need : ℕ
+  need = length (packed ws)
+
+  best : Shortest ws (packed ws)
+  best = packed-shortest ws (said-packable ws said)
+
+  abbrev Fits : Type 0
+  Fits = (n : ℕ) × (r ≡ packer.Words n) × (n ≤ length old) × PackedInto ws old new n
+
+  abbrev Lacks : Type 0
+  Lacks = (n : ℕ) × (r ≡ packer.Refused (record { number = 10; place = n })) × NoRoom ws old new n
+
+  fits : need ≤ length old → Fits
+  fits h =
+      let k = pack-call p in
+      let e = room is ms vs level few said old h in
+      let now = k .1 ∙ e .1 in
+      let front : take need new ≡ packed ws = ap (take need) now ∙ take-at (packed ws) _ need refl in
+      let rest : drop need new ≡ drop need old = ap (drop need) now ∙ drop-at (packed ws) _ need refl in
+      (need, pack-told-one r (packer.Words need) (k .0 ∙ e .0), h, record { shortest = rw front best; words = ap length front; rest = rest })
+
+  lacks : length old < need → Lacks
+  lacks h =
+      let k = pack-call p in
+      let e = no-room is ms vs level few said old h in
+      let why = pack-told-one r (packer.Refused (record { number = 10; place = need })) (k .0 ∙ e) in
+      let kept = k .1 ∙ refused-pack is ms vs old 10 need e in
+      (need, why, record { kept = kept; lacking = h; least = best .least; met = (packed ws, best, refl) })
+
+  -- the shortest list where there is room for it, "no room" else, and nothing third
+  pub packs : Fits ⊎ Lacks
+  packs = go (decLe need (length old))
+    where
+      go : Dec (need ≤ length old) → Fits ⊎ Lacks
+      go (yes h) = inl (fits h)
+      go (no h) = inr (lacks (omega arith))

@@ -1,0 +1,106 @@
+-- "Every entry point answers, or refuses by a number of the table": each refusal of a list, a write or a run is one of the table's rows for that
+-- call, and its place is what the row says. Assumes nothing.
+use mathlib.Core.Path.{_≡_, refl, sym, _∙_}
+use mathlib.Core.Bool.{Bool, true, false, not, _&&_}
+use mathlib.Core.List.{List, [], _∷_}
+use mathlib.Core.Logic.{_⊎_, inl, inr}
+use Prim.Native.Nat.{ℕ, zero, suc, _+_, _<_}
+use native.Mathlib.Omega.{arith}
+use lib.Dec.{eqb, leb, ltb}
+use lib.ListN.{length}
+use borrow.Author.Tests.{leb-false, ltb-true}
+use Rattle.numbers.specs.Pick.{pick}
+use Rattle.numbers.specs.Answer.{Answer, refused, unlessFault}
+use Rattle.numbers.proofs.Answers.{told-apart, number-one, place-one}
+use Rattle.numbers.proofs.Picks.{pick-either}
+use Rattle.words.specs.Writes.{Write, jumps, portData, faultOf}
+use Rattle.words.specs.Commands.{whole, expand, commands}
+use Rattle.registers.specs.State.{State, sized}
+use Rattle.registers.specs.Single.{refusalOf, atZero, writeAnswer}
+use Rattle.reader.specs.ListVerdict.{firstFault, commandFault, judge, verdict}
+use Rattle.reader.specs.Read.{readAnswer}
+use Rattle.reader.proofs.Accepted.{judge-none, judge-more}
+use Rattle.demands.specs.Refusals.{In, FaultNumber, CommandRefused, ReadRefused, WriteRefused}
+
+-- A WRITE'S FAULT is 3, 4 or 5
+
+-- 0, or one of these
+abbrev pub Perhaps : List ℕ → ℕ → Type 0
+Perhaps l n = (n ≡ 0) ⊎ In n l
+
+pub perhaps : (l : List ℕ) (n : ℕ) → Perhaps l n → (n ≡ 0 → ⊥) → In n l
+perhaps l n (inl z) h = absurd (h z)
+perhaps l n (inr i) h = i
+
+pub fault-number : (i m : ℕ) → Perhaps (3 ∷ 4 ∷ 5 ∷ []) (faultOf i m)
+unfolding faultOf
+fault-number i m =
+    let P = Perhaps (3 ∷ 4 ∷ 5 ∷ []) in
+    pick-either P (ltb 0x2FF i) (inr (inl refl))
+    (pick-either P (jumps i) (inr (inr (inl refl))) (pick-either P (portData i && not (eqb m 15)) (inr (inr (inr (inl refl)))) (inl refl)))
+
+first-number : (ws : List Write) → Perhaps (3 ∷ 4 ∷ 5 ∷ []) (firstFault ws)
+unfolding firstFault
+first-number [] = inl refl
+first-number (w ∷ ws) =
+    let f = faultOf (w .id) (w .mask) in
+    pick-either (Perhaps (3 ∷ 4 ∷ 5 ∷ [])) (eqb f 0) (first-number ws) (fault-number (w .id) (w .mask))
+
+-- A LIST
+
+by-whole : (l : List ℕ) (p : ℕ) (b : Bool) → whole l p ≡ b → (n : ℕ) → pick b (firstFault (expand l p)) 2 ≡ n → (n ≡ 0 → ⊥)
+    → ((n ≡ 2) × (whole l p ≡ false)) ⊎ ((whole l p ≡ true) × FaultNumber n × (firstFault (expand l p) ≡ n))
+by-whole l p true t n e z =
+    inr (t, perhaps (3 ∷ 4 ∷ 5 ∷ []) n (rw e at (first-number (expand l p))) z, e)
+by-whole l p false t n e z = inl (sym e, t)
+
+abbrev At : List ℕ → List ℕ → ℕ → ℕ → Type 0
+At l ps n p =
+    In p ps × (((n ≡ 2) × (whole l p ≡ false)) ⊎ ((whole l p ≡ true) × FaultNumber n × (firstFault (expand l p) ≡ n)))
+
+by-command : (l ps : List ℕ) (q f : ℕ) (rest : Answer) (n p : ℕ) → commandFault l q ≡ f → unlessFault f q rest ≡ refused n p
+    → (rest ≡ refused n p → At l ps n p) → At l (q ∷ ps) n p
+by-command l ps q zero rest n p c e more = let r = more e in (inr (r .0), r .1)
+by-command l ps q (suc f) rest n p c e more =
+    let a : suc f ≡ n = number-one e in
+    let b : p ≡ q = sym (place-one e) in
+    (inl b, rw b (by-whole l q (whole l q) refl n (c ∙ a) (λ z. omega arith)))
+
+judge-refused : (l ps : List ℕ) (m n p : ℕ) → judge l ps m ≡ refused n p → At l ps n p
+judge-refused l [] m n p e = absurd (told-apart (sym (judge-none l m) ∙ e))
+judge-refused l (q ∷ ps) m n p e =
+    by-command l ps q (commandFault l q) _ n p refl (sym (judge-more l q ps m) ∙ e) (judge-refused l ps (m + length (expand l q)) n p)
+
+pub verdict-refused : (l : List ℕ) (n p : ℕ) → verdict l ≡ refused n p → CommandRefused l n p
+unfolding verdict
+verdict-refused l n p e = let r = judge-refused l (commands l 0) 0 n p e in record { place = r .0; why = r .1 }
+
+by-length : (s : State) (l : List ℕ) (n p : ℕ) (a b : Bool) → sized s ≡ a → leb (length l) 65536 ≡ b
+    → pick a (pick b (verdict l) (refused 1 0)) (refused 6 0) ≡ refused n p → ReadRefused s l n p
+by-length s l n p true true t u e = inr (inr (verdict-refused l n p e))
+by-length s l n p true false t u e = inr (inl (sym (number-one e), sym (place-one e), leb-false _ _ u))
+by-length s l n p false b t u e = inl (sym (number-one e), sym (place-one e), t)
+
+pub read-refused : (s : State) (l : List ℕ) (n p : ℕ) → readAnswer s l ≡ refused n p → ReadRefused s l n p
+unfolding readAnswer
+read-refused s l n p e = by-length s l n p (sized s) (leb (length l) 65536) refl refl e
+
+-- A SINGLE WRITE
+
+by-zero : (f n p : ℕ) → atZero f ≡ refused n p → (f ≡ n) × (p ≡ 0) × (n ≡ 0 → ⊥)
+by-zero zero n p e = absurd (told-apart e)
+by-zero (suc f) n p e = let a : suc f ≡ n = number-one e in (a, sym (place-one e), λ z. omega arith)
+
+by-mask : (s : State) (w : Write) (n : ℕ) (a b : Bool) → sized s ≡ a → ltb 15 (w .mask) ≡ b
+    → pick a (pick b 9 (faultOf (w .id) (w .mask))) 6 ≡ n → (n ≡ 0 → ⊥)
+    → ((n ≡ 6) × (sized s ≡ false)) ⊎ ((n ≡ 9) × (15 < w .mask)) ⊎ (FaultNumber n × (faultOf (w .id) (w .mask) ≡ n))
+by-mask s w n true true t u e z = inr (inl (sym e, ltb-true _ _ u))
+by-mask s w n true false t u e z =
+    inr (inr (perhaps (3 ∷ 4 ∷ 5 ∷ []) n (rw e at (fault-number (w .id) (w .mask))) z, e))
+by-mask s w n false b t u e z = inl (sym e, t)
+
+pub write-refused : (s : State) (w : Write) (n p : ℕ) → writeAnswer s w ≡ refused n p → WriteRefused s w n p
+unfolding refusalOf
+write-refused s w n p e =
+    let r = by-zero (refusalOf s w) n p e in
+    record { place = r .1; why = by-mask s w n (sized s) (ltb 15 (w .mask)) refl refl (r .0) (r .2) }
