@@ -74,7 +74,8 @@ merge-alike j m v o p q =
     let e = bitAnd H (spread m) in
     let b = held-small j in
     let w : e < 2 ^ 32 = omega (arith, and-le-r H (spread m)) in
-    bits-equal 32 (bitAnd (merge e o v) H) (bitAnd (merge e p v) H) (omega (arith, and-le-r (merge e o v) H)) (omega (arith, and-le-r (merge e p v) H))
+    let small : (x : ℕ) → bitAnd (merge e x v) H < 2 ^ 32 = λ x. omega (arith, and-le-r (merge e x v) H) in
+    bits-equal 32 (bitAnd (merge e o v) H) (bitAnd (merge e p v) H) (small o) (small p)
     (λ k l.
     rw (and-bit k (merge e o v) H, and-bit k (merge e p v) H, merge-bit k e o v w l, merge-bit k e p v w l)
     (pick-alike (bit k e) (bit k v) (bit k o) (bit k p) (bit k H) (sym (and-bit k o H) ∙ ap (λ (x : ℕ). bit k x) q ∙ and-bit k p H)))

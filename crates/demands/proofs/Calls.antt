@@ -1,5 +1,6 @@
--- Calls of the functions, as their contracts have them: `Post` is the reading of a contract that the prover made and proved of the code. A record
--- below says that a call which is lent this may answer and leave that; what is then known follows from `Post` alone. Assumes nothing.
+-- Calls of the functions, as their contracts have them: `Post` is the reading of a contract that the prover made and proved of the code.
+-- A record below says that a call which is lent this may answer and leave that; what is then known follows from `Post` alone. Assumes
+-- nothing.
 use mathlib.Core.Path.{_≡_}
 use mathlib.Core.List.{List}
 use Prim.Native.Nat.{ℕ}

@@ -1,5 +1,5 @@
--- THE DEMANDS OF THE FUNCTIONS, from their contracts alone: what is known of every answer that a call may give and of all that it may leave. Who
--- trusts nothing else starts here. Assumes nothing.
+-- THE DEMANDS OF THE FUNCTIONS, from their contracts alone: what is known of every answer that a call may give and of all that it may
+-- leave. Who trusts nothing else starts here. Assumes nothing.
 use mathlib.Core.Path.{_≡_, refl, sym, ap, _∙_}
 use mathlib.Core.Bool.{Bool, true, false}
 use mathlib.Core.List.{List}
@@ -63,8 +63,8 @@ pack-refuses {is} {ms} {vs} {old} {new} {why} c =
     let e = sym (k .0) in
     (k .1 ∙ refused-pack is ms vs old (why .number) (why .place) e, pack-refused is ms vs (length old) (why .number) (why .place) e)
 
--- DEMAND 2: "A list is accepted exactly when it is well formed and each write is allowed; what it leaves is what its expansion leaves, one masked
--- write after another."
+-- DEMAND 2: "A list is accepted exactly when it is well formed and each write is allowed; what it leaves is what its expansion leaves,
+-- one masked write after another."
 
 -- a list that can be read, and is to be accepted
 pub record Acceptable (s : State) (l : List ℕ) : Type 0 where
@@ -124,8 +124,8 @@ pack-then-read {is} {ms} {vs} {old} {new} {n} {s} {t} {r} p c z =
     let e = q .0 ∙ ap (readAnswer s) put ∙ back .0 ∙ ap answered (writes-length is ms vs (G .masks) (G .values)) in
     (told-one r (list-verdict.Accepted (length is)) e, q .1 ∙ ap (readState s) put ∙ back .2)
 
--- DEMAND 3: "For any run of at most 4,096 allowed writes the packer's list has exactly that expansion, and no accepted list with that expansion has
--- fewer words. "No room" always and only when the lent space is shorter than that, with the words needed."
+-- DEMAND 3: "For any run of at most 4,096 allowed writes the packer's list has exactly that expansion, and no accepted list with that
+-- expansion has fewer words. "No room" always and only when the lent space is shorter than that, with the words needed."
 
 -- the list is in the space, shortest, and the space past it is as it was
 pub record PackedInto (ws : List Write) (old new : List ℕ) (n : ℕ) : Type 0 where
@@ -164,7 +164,8 @@ module _ {is ms vs old new : List ℕ} {r : Packed} (p : PackCall is ms vs old r
       let now = k .1 ∙ e .1 in
       let front : take need new ≡ packed ws = ap (take need) now ∙ take-at (packed ws) _ need refl in
       let rest : drop need new ≡ drop need old = ap (drop need) now ∙ drop-at (packed ws) _ need refl in
-      (need, pack-told-one r (packer.Words need) (k .0 ∙ e .0), h, record { shortest = rw front best; words = ap length front; rest = rest })
+      let told = pack-told-one r (packer.Words need) (k .0 ∙ e .0) in
+      (need, told, h, record { shortest = rw front best; words = ap length front; rest = rest })
 
   lacks : length old < need → Lacks
   lacks h =

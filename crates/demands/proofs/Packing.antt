@@ -129,7 +129,8 @@ module _ (is ms vs : List ℕ) (level : (length is ≡ length ms) × (length is 
 
   -- ""No room" always and only when the lent space is shorter than that, with the words needed"
   pub room : (old : List ℕ) → length (packed ws) ≤ length old
-      → (packAnswer is ms vs (length old) ≡ answered (length (packed ws))) × (packSpace is ms vs old ≡ packed ws ++ drop (length (packed ws)) old)
+      → (packAnswer is ms vs (length old) ≡ answered (length (packed ws)))
+      × (packSpace is ms vs old ≡ packed ws ++ drop (length (packed ws)) old)
   room old h =
       let r = pack-room is ms vs old 0 _ _ (given-check is ms vs given) (room-enough (packed ws) (length old) _ refl h) refl in
       (sym (r .0), sym (r .1))

@@ -1,5 +1,5 @@
--- "Every entry point answers, or refuses by a number of the table": each refusal of a list, a write or a run is one of the table's rows for that
--- call, and its place is what the row says. Assumes nothing.
+-- "Every entry point answers, or refuses by a number of the table": each refusal of a list, a write or a run is one of the table's rows
+-- for that call, and its place is what the row says. Assumes nothing.
 use mathlib.Core.Path.{_≡_, refl, sym, _∙_}
 use mathlib.Core.Bool.{Bool, true, false, not, _&&_}
 use mathlib.Core.List.{List, [], _∷_}

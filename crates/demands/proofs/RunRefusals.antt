@@ -67,8 +67,8 @@ unfolding checkAnswer
 check-refused is ms vs n p e = by-tests is ms vs n p (level is ms vs) (leb (length is) 4096) refl refl e
 
 -- PACKING
-by-room : (l : List ℕ) (room n p : ℕ) (b : Bool) → leb (length l) room ≡ b → pick b (answered (length l)) (refused 10 (length l)) ≡ refused n p
-    → (n ≡ 10) × (p ≡ length l) × (room < p)
+by-room : (l : List ℕ) (room n p : ℕ) (b : Bool) → leb (length l) room ≡ b
+    → pick b (answered (length l)) (refused 10 (length l)) ≡ refused n p → (n ≡ 10) × (p ≡ length l) × (room < p)
 by-room l room n p true t e = absurd (told-apart e)
 by-room l room n p false t e =
     let z : p ≡ length l = sym (place-one e) in (sym (number-one e), z, omega (arith, leb-false (length l) room t))

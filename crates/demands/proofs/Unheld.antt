@@ -1,4 +1,5 @@
--- Only held registers' held bits, and of the entries of named tables the low 24 bits, change: by one write and by any run of writes. Assumes nothing.
+-- Only held registers' held bits, and of the entries of named tables the low 24 bits, change: by one write and by any run of writes.
+-- Assumes nothing.
 use mathlib.Core.Path.{_≡_, refl, sym, ap, _∙_}
 use mathlib.Core.Bool.{Bool, true, false, not, _||_, false≢true}
 use mathlib.Core.List.{List, [], _∷_}
@@ -7,7 +8,7 @@ use native.Mathlib.Nat.{div-div-eq-div-mul}
 use native.Mathlib.Decide.{decLt}
 use native.Mathlib.Omega.{arith}
 use lib.Bits.{bitAnd, and-le-r, and-zero-l}
-use lib.Dec.{eqb, leb}
+use lib.Dec.{T, eqb, leb}
 use borrow.Author.Tests.{eqb-true, eqb-false, eq-eqb, leb-true}
 use lib.ListN.{length, getD, set, replicate, length-replicate}
 use lib.Pow.{pow-add}
@@ -15,7 +16,8 @@ use lib.Seq.{getD-set-same, getD-set-other, set-out}
 use Rattle.numbers.specs.Pick.{pick}
 use Rattle.numbers.specs.Bits.{bit, spread, merge}
 use Rattle.numbers.proofs.Tests.{is-true}
-use Rattle.numbers.proofs.Table.{at}
+use Rattle.numbers.proofs.Table.{every, at}
+use Rattle.numbers.proofs.Picks.{pick-either}
 use Rattle.numbers.proofs.Merge.{and-bit, merge-bit}
 use Rattle.words.specs.Writes.{Write, fogData, lightData}
 use Rattle.registers.specs.State.{State, st}
@@ -72,17 +74,20 @@ above : (a b : Bool) → (not a || b) ≡ true → a ≡ true → b ≡ true
 above true b e h = e
 above false b e h = absurd (false≢true h)
 
+-- the test, computed over the 32 bits of a word, says so
+index-from : (held n : ℕ) → T (every (λ k _. index-bit held n k) 0 (replicate 32 0)) → (k : ℕ) → k < 32 → bit k held ≡ 0 → n ≤ k
+unfolding index-bit
+index-from held n test k b u =
+    let t = at (λ k _. index-bit held n k) (replicate 32 0) test k (omega (arith, length-replicate {A = ℕ} 32 0)) in
+    leb-true n k (above (eqb (bit k held) 0) (leb n k) (is-true (index-bit held n k) t) (eq-eqb (bit k held) 0 u))
+
 fog-index : (k : ℕ) → k < 32 → bit k (bitsOf 0xE6) ≡ 0 → 7 ≤ k
 unfolding bitsOf bitsIn held index-bit
-fog-index k b u =
-    let t = is-true (index-bit 0x7F 7 k) (at (λ k _. index-bit 0x7F 7 k) (replicate 32 0) tt k (omega (arith, length-replicate {A = ℕ} 32 0))) in
-    leb-true 7 k (above (eqb (bit k 0x7F) 0) (leb 7 k) t (eq-eqb (bit k 0x7F) 0 u))
+fog-index = index-from 0x7F 7 tt
 
 light-index : (k : ℕ) → k < 32 → bit k (bitsOf 0x1C5) ≡ 0 → 8 ≤ k
 unfolding bitsOf bitsIn held index-bit
-light-index k b u =
-    let t = is-true (index-bit 0x1FFF 8 k) (at (λ k _. index-bit 0x1FFF 8 k) (replicate 32 0) tt k (omega (arith, length-replicate {A = ℕ} 32 0))) in
-    leb-true 8 k (above (eqb (bit k 0x1FFF) 0) (leb 8 k) t (eq-eqb (bit k 0x1FFF) 0 u))
+light-index = index-from 0x1FFF 8 tt
 
 -- CELLS: a bit that isn't held stays, whatever the id and the mask
 module _ (cells : List ℕ) (j k : ℕ) (b : k < 32) (u : bit k (bitsOf j) ≡ 0) where
@@ -125,19 +130,21 @@ fog-high cells fog v j = set-keeps high fog (fogIndex cells) j (entry (getD fog 
 
 light-high : (cells light : List ℕ) (v j : ℕ) → high (getD (lightEntries cells light v) j 0) ≡ high (getD light j 0)
 unfolding lightEntries
-light-high cells light v j = go (named (lightTable cells))
-  where
-    go : (n : Bool) → high (getD (pick n (set light (lightPlace cells) (entry (getD light (lightPlace cells) 0) v)) light) j 0) ≡ high (getD light j 0)
-    go true = set-keeps high light (lightPlace cells) j (entry (getD light (lightPlace cells) 0) v) (λ e. omega arith)
-    go false = refl
+light-high cells light v j =
+    let p = lightPlace cells in
+    pick-either (λ (l : List ℕ). high (getD l j 0) ≡ high (getD light j 0)) (named (lightTable cells))
+    (set-keeps high light p j (entry (getD light p 0) v) (λ e. omega arith)) refl
 
 light-unnamed : (cells light : List ℕ) (v j : ℕ) → named (j / 256) ≡ false → getD (lightEntries cells light v) j 0 ≡ getD light j 0
 unfolding lightEntries
 light-unnamed cells light v j u = go (named (lightTable cells)) refl
   where
-    go : (n : Bool) → named (lightTable cells) ≡ n → getD (pick n (set light (lightPlace cells) (entry (getD light (lightPlace cells) 0) v)) light) j 0 ≡ getD light j 0
+    p : ℕ
+    p = lightPlace cells
+
+    go : (n : Bool) → named (lightTable cells) ≡ n → getD (pick n (set light p (entry (getD light p 0) v)) light) j 0 ≡ getD light j 0
     go true n =
-        set-keeps (λ x. x) light (lightPlace cells) j (entry (getD light (lightPlace cells) 0) v)
+        set-keeps (λ x. x) light p j (entry (getD light p 0) v)
         (λ e. let t : j / 256 ≡ lightTable cells = omega arith in absurd (false≢true (sym u ∙ rw t n)))
     go false n = refl
 
@@ -164,7 +171,8 @@ light-entries-only j =
     (λ s w. write-keeps (λ (s : State). high (getD (s .light) j 0)) s w refl (light-high (s .cells) (s .light) (w .value) j) refl)
 
 -- "Tables 2, 7 and 18h-1Fh aren't named in 000: their entries never change"
-pub unnamed-tables : (j : ℕ) → named (j / 256) ≡ false → (s : State) (ws : List Write) → getD (applyAll s ws .light) j 0 ≡ getD (s .light) j 0
+pub unnamed-tables : (j : ℕ) → named (j / 256) ≡ false → (s : State) (ws : List Write)
+    → getD (applyAll s ws .light) j 0 ≡ getD (s .light) j 0
 unnamed-tables j u =
     run-keeps (λ (s : State). getD (s .light) j 0)
     (λ s w. write-keeps (λ (s : State). getD (s .light) j 0) s w refl (light-unnamed (s .cells) (s .light) (w .value) j u) refl)

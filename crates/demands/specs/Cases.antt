@@ -1,4 +1,5 @@
--- The examples of document 01 that are marked P, as one table: each case has what the definitions give and what the document says, as numbers.
+-- The examples of document 01 that are marked P, as one table: each case has what the definitions give and what the document says, as
+-- numbers.
 use mathlib.Core.List.{List, [], _∷_, _++_, map}
 use Prim.Native.Nat.{ℕ, zero, suc, _+_, _*_}
 use lib.IntN.{ℤ, pos, negsuc}

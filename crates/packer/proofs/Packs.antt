@@ -26,7 +26,8 @@ module _ (is ms vs old : List ℕ) where
   pack-refused n p e = rw e (refl, refl)
 
   -- else it goes by the room
-  pub pack-room : (n : ℕ) (a : Answer) (new : List ℕ) → checkAnswer is ms vs ≡ answered n → a ≡ ifRoom (packed (writes is ms vs)) (length old)
+  pub pack-room : (n : ℕ) (a : Answer) (new : List ℕ) → checkAnswer is ms vs ≡ answered n
+      → a ≡ ifRoom (packed (writes is ms vs)) (length old)
       → new ≡ spaceAfter a (packed (writes is ms vs)) old → (a ≡ packAnswer is ms vs (length old)) × (new ≡ packSpace is ms vs old)
   unfolding packAnswer
   pack-room n a new e f g = rw (e, ← f) (refl, g)

@@ -1,4 +1,5 @@
--- What packing answers, and what it leaves in the space: the refusals of the writes, then 10 where the space is shorter than the shortest list.
+-- What packing answers, and what it leaves in the space: the refusals of the writes, then 10 where the space is shorter than the shortest
+-- list.
 use mathlib.Core.List.{List, _++_}
 use Prim.Native.Nat.{ℕ}
 use lib.Dec.{leb}

@@ -1,5 +1,6 @@
-// A run of writes packed into the shortest list: the writes are checked, their commands planned from the run's end (crate planning), and laid out
-// from its start (crate laying). The contracts cite specs/Checks.antt and specs/Packing.antt; the packed list itself is defined in crate runs.
+// A run of writes packed into the shortest list: the writes are checked, their commands planned from the run's end (crate planning), and
+// laid out from its start (crate laying). The contracts cite specs/Checks.antt and specs/Packing.antt; the packed list itself is defined
+// in crate runs.
 ghost use mathlib.Core.Path.{_≡_};
 ghost use mathlib.Core.Bool.{true};
 ghost use mathlib.Core.List.{List};
@@ -137,8 +138,8 @@ fn fill(
     Packed::Words(need)
 }
 
-// Packs writes into the start of the space and answers how many words it put there, or refuses: 7, 8, then each write in order for 9, 3, 4, 5
-// with its index, then 10 with the words needed. Space past what is written keeps its contents; on a refusal all of it does.
+// Packs writes into the start of the space and answers how many words it put there, or refuses: 7, 8, then each write in order for 9, 3,
+// 4, 5 with its index, then 10 with the words needed. Space past what is written keeps its contents; on a refusal all of it does.
 pub fn pack(ids: &[u32], masks: &[u32], values: &[u32], space: &mut [u32]) -> Packed
     ensures { λ r. ⌜
         (told r ≡ packAnswer (now (ids .entry)) (now (masks .entry)) (now (values .entry)) (length (now (space .entry))))

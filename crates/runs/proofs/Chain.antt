@@ -134,4 +134,5 @@ module _ (l : List ℕ) (at : ℕ) (ws : List Write) where
   pub expand-span : countOf (headerAt l at) + 1 ≤ span (expand l at ++ ws)
   unfolding span
   expand-span =
-      omega (arith, chain-run (countOf (headerAt l at) + 1) 0 (idOf (headerAt l at)), step-two (stepOf (headerAt l at)) (expand l at ++ ws) (omega arith))
+      let h = headerAt l at in
+      omega (arith, chain-run (countOf h + 1) 0 (idOf h), step-two (stepOf h) (expand l at ++ ws) (omega arith))

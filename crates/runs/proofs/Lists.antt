@@ -43,7 +43,8 @@ module _ (l : List ℕ) where
   step : (at : ℕ) → at < length l → From (at + wordsOf (headerAt l at)) → From at
   step at q rest p f =
       let next = at + wordsOf (headerAt l at) in
-      let g = and-true (whole l at) (full l (commands l next)) (sym (full-more l at (commands l next)) ∙ (rw (commands-step l at q) at f)) in
+      let m = sym (full-more l at (commands l next)) ∙ (rw (commands-step l at q) at f) in
+      let g = and-true (whole l at) (full l (commands l next)) m in
       rw (commands-step l at q) (one at (commands l next) (g .0) (rest (leb-true _ _ (g .0)) (g .1)))
 
   end : (at : ℕ) → length l ≤ at → From at

@@ -67,7 +67,8 @@ Stands ws = (L : List ℕ) (at : ℕ) → drop at L ≡ packed ws → Plain ws �
 finds-none : Stands []
 finds-none L at e p =
     let n : length L - at ≡ 0 = sym (length-drop at L) ∙ ap length (e ∙ packed-none [] refl) in
-    rw (commands-end L at (omega arith)) (record { form = full-none L; writes = join-none L; sizes = sym (sizes-nil span [] refl); tidy = tt })
+    rw (commands-end L at (omega arith))
+    (record { form = full-none L; writes = join-none L; sizes = sym (sizes-nil span [] refl); tidy = tt })
 
 -- one command more
 module _ (L : List ℕ) (at : ℕ) (a : Write) (l : List Write) (p : Plain (a ∷ l)) (k : ℕ) (f : OneCommand (a ∷ l) k) (R : List ℕ)
@@ -129,7 +130,8 @@ module _ (L : List ℕ) (at : ℕ) (a : Write) (l : List Write) (p : Plain (a �
             ∙ command-pad k a l (f .low) (f .fits) (omega arith));
       }
 
-  finds-more : Finds L (commands L (at + words k)) (drop k (a ∷ l)) → sizes span (a ∷ l) ≡ k ∷ sizes span (drop k (a ∷ l)) → Finds L (commands L at) (a ∷ l)
+  finds-more : Finds L (commands L (at + words k)) (drop k (a ∷ l)) → sizes span (a ∷ l) ≡ k ∷ sizes span (drop k (a ∷ l))
+      → Finds L (commands L at) (a ∷ l)
   finds-more s z =
       let n : at + wordsOf (headerAt L at) ≤ length L = omega (arith, taken, inside) in
       let ps = commands L (at + words k) in

@@ -1,5 +1,5 @@
--- Two runs joined: their shortest list saves at most two words against the two shortest lists, since only the command across the seam is cut.
--- Assumes nothing.
+-- Two runs joined: their shortest list saves at most two words against the two shortest lists, since only the command across the seam is
+-- cut. Assumes nothing.
 use mathlib.Core.Path.{_≡_, refl, ap}
 use mathlib.Core.Bool.{Bool, true, false}
 use mathlib.Core.List.{List, [], _∷_, _++_}

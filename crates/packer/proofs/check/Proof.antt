@@ -13,7 +13,8 @@ use Rattle.packer.proofs.check.Statement.{statement}
 use Rattle.packer.proofs.check.Tie as tie
 
 abbrev Inv-loop : tie.InvT-loop
-Inv-loop ids masks values n i₀ i = (i ≤ length ids) × (firstWrong 0 (writes ids masks values) ≡ firstWrong i (drop i (writes ids masks values)))
+Inv-loop ids masks values n i₀ i =
+    (i ≤ length ids) × (firstWrong 0 (writes ids masks values) ≡ firstWrong i (drop i (writes ids masks values)))
 
 abbrev μ-loop : tie.MeasureT-loop
 μ-loop ids masks values n i₀ i = n - i
@@ -45,12 +46,14 @@ loop-holds c =
 abbrev start : tie.At-loop Inv-loop μ-loop → tie.Start Inv-loop μ-loop
 start c = c .before .before .before .before .before .before .before .before
 
-one-length : (c : tie.At-loop Inv-loop μ-loop) → level (start c .args .ids .now) (start c .args .masks .now) (start c .args .values .now) ≡ true
+one-length : (c : tie.At-loop Inv-loop μ-loop)
+    → level (start c .args .ids .now) (start c .args .masks .now) (start c .args .values .now) ≡ true
 one-length c = not-false _ (c .before .before .before .before .if1 .left)
 
 from-i : (c : tie.At-loop Inv-loop μ-loop)
     → checkAnswer (start c .args .ids .now) (start c .args .masks .now) (start c .args .values .now)
-    ≡ firstWrong (c .loop .i) (drop (c .loop .i) (writes (start c .args .ids .now) (start c .args .masks .now) (start c .args .values .now)))
+    ≡ firstWrong (c .loop .i)
+    (drop (c .loop .i) (writes (start c .args .ids .now) (start c .args .masks .now) (start c .args .values .now)))
 from-i c = check-writes _ _ _ (one-length c) (c .before .before .before .if2 .left) ∙ c .loop .inv .1
 
 mul-wrong-with : tie.Need-mul-wrong-with Inv-loop μ-loop
@@ -73,9 +76,11 @@ wrong-with-requires c κs = search needs
 
 returns-4 : tie.Need-returns-4 Inv-loop μ-loop
 returns-4 c =
-    let a = start (c .before .before .before .before .before) .args in
+    let o = c .before .before .before .before .before in
+    let a = start o .args in
     let w = c .before .wrong-with in
-    sym (from-i (c .before .before .before .before .before) ∙ wrong-here (a .ids .now) (a .masks .now) (a .values .now) _ (one-length (c .before .before .before .before .before)) (c .before .before .before .before .loop-test .taken) (w .result) (w .ensures) (c .if4 .taken))
+    let t = c .before .before .before .before .loop-test .taken in
+    sym (from-i o ∙ wrong-here (a .ids .now) (a .masks .now) (a .values .now) _ (one-length o) t (w .result) (w .ensures) (c .if4 .taken))
 
 add-i : tie.Need-add-i Inv-loop μ-loop
 add-i c = search needs
@@ -85,9 +90,12 @@ loop-less c = search needs
 
 loop-again : tie.Need-loop-again Inv-loop μ-loop
 loop-again c =
-    let a = start (c .before .before .before .before .before) .args in
+    let o = c .before .before .before .before .before in
+    let a = start o .args in
     let w = c .before .wrong-with in
-    (omega arith, c .before .before .before .before .before .loop .inv .1 ∙ wrong-none (a .ids .now) (a .masks .now) (a .values .now) _ (one-length (c .before .before .before .before .before)) (c .before .before .before .before .loop-test .taken) (w .result) (w .ensures) (c .if4 .left))
+    let t = c .before .before .before .before .loop-test .taken in
+    let none = wrong-none (a .ids .now) (a .masks .now) (a .values .now) _ (one-length o) t (w .result) (w .ensures) (c .if4 .left) in
+    (omega arith, o .loop .inv .1 ∙ none)
 
 returns-5 : tie.Need-returns-5 Inv-loop μ-loop
 returns-5 c =

@@ -12,7 +12,10 @@ use Rattle.packer.proofs.count_wrong.Statement.{statement}
 use Rattle.packer.proofs.count_wrong.Tie as tie
 
 abbrev Inv-loop : tie.InvT-loop
-Inv-loop ids masks count₀ i₀ count i = (i ≤ length ids) × (count ≤ i) × ((vs : List ℕ) → length ids ≡ length vs → count ≡ 0 → firstWrong 0 (writes ids masks vs) ≡ firstWrong i (drop i (writes ids masks vs)))
+Inv-loop ids masks count₀ i₀ count i =
+    (i ≤ length ids) × (count ≤ i)
+    × ((vs : List ℕ) → length ids ≡ length vs → count ≡ 0
+    → firstWrong 0 (writes ids masks vs) ≡ firstWrong i (drop i (writes ids masks vs)))
 
 abbrev μ-loop : tie.MeasureT-loop
 μ-loop ids masks count₀ i₀ count i = length ids - i
@@ -55,8 +58,9 @@ loop-again c =
       (λ vs q r.
           let z : o .count ≡ 0 = omega arith in
           let y : w .result ≡ 0 = omega arith in
-          o .inv .2 vs q z
-          ∙ wrong-none (a .ids .now) (a .masks .now) vs (o .i) (lengths-level (a .ids .now) (a .masks .now) vs (b .pre .0) q) (c .before .before .before .loop-test .taken) 0 (sym (w .ensures .1 y)) refl),
+          let e = lengths-level (a .ids .now) (a .masks .now) vs (b .pre .0) q in
+          let t = c .before .before .before .loop-test .taken in
+          o .inv .2 vs q z ∙ wrong-none (a .ids .now) (a .masks .now) vs (o .i) e t 0 (sym (w .ensures .1 y)) refl),
     )
 
 returns : tie.Need-returns Inv-loop μ-loop
@@ -64,7 +68,9 @@ returns c =
     let b = c .before .before .before .before in
     let a = b .args in
     let o = c .before .loop in
-    λ vs q r. o .inv .2 vs q r ∙ wrong-end (a .ids .now) (a .masks .now) vs (o .i) (lengths-level (a .ids .now) (a .masks .now) vs (b .pre .0) q) (c .loop-test .left)
+    λ vs q r.
+    let e = lengths-level (a .ids .now) (a .masks .now) vs (b .pre .0) q in
+    o .inv .2 vs q r ∙ wrong-end (a .ids .now) (a .masks .now) vs (o .i) e (c .loop-test .left)
 
 pub count-wrong-spec : {M : Type 1} → statement M
 count-wrong-spec =

@@ -24,13 +24,15 @@ returns c =
     let b = c .before .before .before .before .before .before .before .before .before .before .before .before .before .before in
     let a = b .args in
     let p = c .before .before .before .before .before .plan-run .ensures (a .values .now) (b .pre .0 .values) in
-    (room-short (packed (writes (a .ids .now) (a .masks .now) (a .values .now))) _ _ (p .words ∙ sym (packed-length _)) (c .if1 .taken), refl)
+    let ws = writes (a .ids .now) (a .masks .now) (a .values .now) in
+    (room-short (packed ws) _ _ (p .words ∙ sym (packed-length ws)) (c .if1 .taken), refl)
 
 lay-out-requires : tie.Need-lay-out-requires
 lay-out-requires c κs =
-    let b = c .before .before .before .before .before .before .before .before .before .before .before .before .before .before .before .before in
+    let d = c .before .before .before .before .before .before .before in
+    let b = d .before .before .before .before .before .before .before .before .before in
     let a = b .args in
-    let o = c .before .before .before .before .before .before .before .plan-run in
+    let o = d .plan-run in
     let p = o .ensures (a .values .now) (b .pre .0 .values) in
     let n = packed-length (writes (a .ids .now) (a .masks .now) (a .values .now)) in
     (b .pre .0, omega (arith, o .kept .1 .1 .1 .0, b .pre .2), p .sizes, omega (arith, p .words, n, c .before .before .if1 .left))
@@ -46,12 +48,14 @@ same-length-5 c = search needs
 
 returns-2 : tie.Need-returns-2
 returns-2 c =
-    let b = c .before .before .before .before .before .before .before .before .before .before .before .before .before .before .before .before .before .before .before in
+    let d = c .before .before .before .before .before .before .before .before .before .before in
+    let b = d .before .before .before .before .before .before .before .before .before in
     let a = b .args in
-    let o = c .before .before .before .before .before .before .before .before .before .before .plan-run in
+    let o = d .plan-run in
     let p = o .ensures (a .values .now) (b .pre .0 .values) in
-    let e = p .words ∙ sym (packed-length (writes (a .ids .now) (a .masks .now) (a .values .now))) in
-    (room-enough (packed (writes (a .ids .now) (a .masks .now) (a .values .now))) _ _ e (c .before .before .before .before .before .if1 .left), rw e (c .before .before .lay-out .ensures))
+    let ws = writes (a .ids .now) (a .masks .now) (a .values .now) in
+    let e = p .words ∙ sym (packed-length ws) in
+    (room-enough (packed ws) _ _ e (c .before .before .before .before .before .if1 .left), rw e (c .before .before .lay-out .ensures))
 
 pub fill-spec : {M : Type 1} → statement M
 fill-spec =

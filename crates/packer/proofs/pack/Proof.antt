@@ -1,4 +1,5 @@
--- A refusal of the writes stands; else the writes can be packed, and `fill` answers, with little room to plan in or with much. Assumes nothing.
+-- A refusal of the writes stands; else the writes can be packed, and `fill` answers, with little
+-- room to plan in or with much. Assumes nothing.
 use mathlib.Core.Path.{_≡_, sym, ap, _∙_}
 use native.Mathlib.Omega.{arith}
 use borrow.Author.Needs.{needs}
@@ -28,7 +29,8 @@ enum-told c = search needs
 abbrev start : tie.After-enum-told → tie.Start
 start c = c .before .before .before .before .before .before .before
 
-fine : (c : tie.After-enum-told) → checkAnswer (start c .args .ids .now) (start c .args .masks .now) (start c .args .values .now) ≡ answered 0
+fine : (c : tie.After-enum-told)
+    → checkAnswer (start c .args .ids .now) (start c .args .masks .now) (start c .args .values .now) ≡ answered 0
 fine c = sym (c .before .before .check .ensures) ∙ ap found (c .enum-told .given .1)
 
 given : (c : tie.After-enum-told) → PackableRun (start c .args .ids .now) (start c .args .masks .now) (start c .args .values .now)
@@ -49,7 +51,8 @@ same-length c = search needs
 
 returns-2 : tie.Need-returns-2
 returns-2 c =
-    let o = c .before .before .before .before .fill .ensures in pack-room _ _ _ _ 0 _ _ (fine (c .before .before .before .before .before .before .before .before .before)) (o .0) (o .1)
+    let o = c .before .before .before .before .fill .ensures in
+    pack-room _ _ _ _ 0 _ _ (fine (c .before .before .before .before .before .before .before .before .before)) (o .0) (o .1)
 
 slice-aggregate-fill-3 : tie.Need-slice-aggregate-fill-3
 slice-aggregate-fill-3 c = search needs
@@ -66,7 +69,8 @@ same-length-2 c = search needs
 
 returns-3 : tie.Need-returns-3
 returns-3 c =
-    let o = c .before .before .before .before .fill2 .ensures in pack-room _ _ _ _ 0 _ _ (fine (c .before .before .before .before .before .before .before .before .before)) (o .0) (o .1)
+    let o = c .before .before .before .before .fill2 .ensures in
+    pack-room _ _ _ _ 0 _ _ (fine (c .before .before .before .before .before .before .before .before .before)) (o .0) (o .1)
 
 pub pack-spec : {M : Type 1} → statement M
 pack-spec =
