@@ -10,3 +10,4 @@ pub mod Writes
 pub mod Each
 pub mod Words32
 pub mod Seams
+pub mod Joined
