@@ -37,8 +37,8 @@ use Rattle.demands.specs.Said.{Said}
 use Rattle.demands.specs.Refusals.{ReadRefused, WriteRefused, PackRefused}
 use Rattle.demands.proofs.Calls.{WriteCall, ReadCall, PackCall, write-call, read-call, pack-call}
 use Rattle.demands.proofs.Reading.{refused-list, refused-write, accepted, accepted-only, leaves}
-use Rattle.demands.proofs.Refusals.{write-refused, read-refused}
-use Rattle.demands.proofs.RunRefusals.{pack-refused}
+use Rattle.demands.proofs.Refusals.{write-row, read-row}
+use Rattle.demands.proofs.RunRefusals.{pack-row}
 use Rattle.demands.proofs.Said.{said-packable}
 use Rattle.demands.proofs.Packing.{refused-pack, answered-then, given-said, reads-back, room, no-room}
 
@@ -48,20 +48,20 @@ pub write-refuses : {s t : State} {w : Write} {why : Refusal} → WriteCall s w 
     → (t ≡ s) × WriteRefused s w (why .number) (why .place)
 write-refuses {s} {t} {w} {why} c =
     let k = write-call c in
-    (k .1 ∙ refused-write s w (why .number) (why .place) (sym (k .0)), write-refused s w (why .number) (why .place) (sym (k .0)))
+    (k .1 ∙ refused-write s w (why .number) (why .place) (sym (k .0)), write-row s w (why .number) (why .place) (sym (k .0)))
 
 pub read-refuses : {s t : State} {l : List ℕ} {why : Refusal} → ReadCall s l (list-verdict.Refused why) t
     → (t ≡ s) × ReadRefused s l (why .number) (why .place)
 read-refuses {s} {t} {l} {why} c =
     let k = read-call c in
-    (k .1 ∙ refused-list s l (why .number) (why .place) (sym (k .0)), read-refused s l (why .number) (why .place) (sym (k .0)))
+    (k .1 ∙ refused-list s l (why .number) (why .place) (sym (k .0)), read-row s l (why .number) (why .place) (sym (k .0)))
 
 pub pack-refuses : {is ms vs old new : List ℕ} {why : Refusal} → PackCall is ms vs old (packer.Refused why) new
     → (new ≡ old) × PackRefused is ms vs (length old) (why .number) (why .place)
 pack-refuses {is} {ms} {vs} {old} {new} {why} c =
     let k = pack-call c in
     let e = sym (k .0) in
-    (k .1 ∙ refused-pack is ms vs old (why .number) (why .place) e, pack-refused is ms vs (length old) (why .number) (why .place) e)
+    (k .1 ∙ refused-pack is ms vs old (why .number) (why .place) e, pack-row is ms vs (length old) (why .number) (why .place) e)
 
 -- DEMAND 2: "A list is accepted exactly when it is well formed and each write is allowed; what it leaves is what its expansion leaves,
 -- one masked write after another."
@@ -104,8 +104,8 @@ by-number : (n : ℕ) (s t u : State) → answered 0 ≡ atZero n → u ≡ unle
 by-number zero s t u e f = (refl, f)
 by-number (suc n) s t u e f = absurd (told-apart e)
 
-pub write-done : {s t : State} {w : Write} → WriteCall s w written.Done t → t ≡ apply s w
-write-done {s} {t} {w} c = let k = write-call c in by-number (refusalOf s w) s (apply s w) t (k .0) (k .1) .1
+pub write-leaves : {s t : State} {w : Write} → WriteCall s w written.Done t → t ≡ apply s w
+write-leaves {s} {t} {w} c = let k = write-call c in by-number (refusalOf s w) s (apply s w) t (k .0) (k .1) .1
 
 -- "A packed list reads back as the writes that were given": what `pack` put into the space, read by `read` into any state
 pub pack-then-read : {is ms vs old new : List ℕ} {n : ℕ} {s t : State} {r : ListVerdict} → PackCall is ms vs old (packer.Words n) new

@@ -28,7 +28,7 @@ use Rattle.packer.proofs.Checks.{check-given, given-check}
 use Rattle.packer.proofs.Packs.{pack-room, room-enough, room-short}
 use Rattle.demands.specs.Said.{Said}
 use Rattle.demands.proofs.Reading.{accepted, leaves}
-use Rattle.demands.proofs.RunRefusals.{check-refused, run-below}
+use Rattle.demands.proofs.RunRefusals.{check-row, run-below}
 use Rattle.demands.proofs.Said.{said-packable, packable-said}
 
 -- a list that a state accepts has a verdict that accepts
@@ -61,7 +61,7 @@ module _ (is ms vs : List ℕ) where
   from-check : (room : ℕ) (a b : Answer) → checkAnswer is ms vs ≡ b → andThen b (ifRoom list room) ≡ a
       → ByRoom room a ⊎ ((n : ℕ) × (p : ℕ) × (a ≡ refused n p) × (n < 10))
   from-check room a (answered m) c e = inl (check-given is ms vs m c, e)
-  from-check room a (refused m p) c e = inr (m, p, sym e, run-below is ms vs m p (check-refused is ms vs m p c))
+  from-check room a (refused m p) c e = inr (m, p, sym e, run-below is ms vs m p (check-row is ms vs m p c))
 
   cases : (room : ℕ) (a : Answer) → packAnswer is ms vs room ≡ a
       → ByRoom room a ⊎ ((n : ℕ) × (p : ℕ) × (a ≡ refused n p) × (n < 10))

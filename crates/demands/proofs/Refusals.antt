@@ -71,19 +71,19 @@ judge-refused l [] m n p e = absurd (told-apart (sym (judge-none l m) ∙ e))
 judge-refused l (q ∷ ps) m n p e =
     by-command l ps q (commandFault l q) _ n p refl (sym (judge-more l q ps m) ∙ e) (judge-refused l ps (m + length (expand l q)) n p)
 
-pub verdict-refused : (l : List ℕ) (n p : ℕ) → verdict l ≡ refused n p → CommandRefused l n p
+pub verdict-row : (l : List ℕ) (n p : ℕ) → verdict l ≡ refused n p → CommandRefused l n p
 unfolding verdict
-verdict-refused l n p e = let r = judge-refused l (commands l 0) 0 n p e in record { place = r .0; why = r .1 }
+verdict-row l n p e = let r = judge-refused l (commands l 0) 0 n p e in record { place = r .0; why = r .1 }
 
 by-length : (s : State) (l : List ℕ) (n p : ℕ) (a b : Bool) → sized s ≡ a → leb (length l) 65536 ≡ b
     → pick a (pick b (verdict l) (refused 1 0)) (refused 6 0) ≡ refused n p → ReadRefused s l n p
-by-length s l n p true true t u e = inr (inr (verdict-refused l n p e))
+by-length s l n p true true t u e = inr (inr (verdict-row l n p e))
 by-length s l n p true false t u e = inr (inl (sym (number-one e), sym (place-one e), leb-false _ _ u))
 by-length s l n p false b t u e = inl (sym (number-one e), sym (place-one e), t)
 
-pub read-refused : (s : State) (l : List ℕ) (n p : ℕ) → readAnswer s l ≡ refused n p → ReadRefused s l n p
+pub read-row : (s : State) (l : List ℕ) (n p : ℕ) → readAnswer s l ≡ refused n p → ReadRefused s l n p
 unfolding readAnswer
-read-refused s l n p e = by-length s l n p (sized s) (leb (length l) 65536) refl refl e
+read-row s l n p e = by-length s l n p (sized s) (leb (length l) 65536) refl refl e
 
 -- A SINGLE WRITE
 
@@ -99,8 +99,8 @@ by-mask s w n true false t u e z =
     inr (inr (perhaps (3 ∷ 4 ∷ 5 ∷ []) n (rw e at (fault-number (w .id) (w .mask))) z, e))
 by-mask s w n false b t u e z = inl (sym e, t)
 
-pub write-refused : (s : State) (w : Write) (n p : ℕ) → writeAnswer s w ≡ refused n p → WriteRefused s w n p
+pub write-row : (s : State) (w : Write) (n p : ℕ) → writeAnswer s w ≡ refused n p → WriteRefused s w n p
 unfolding refusalOf
-write-refused s w n p e =
+write-row s w n p e =
     let r = by-zero (refusalOf s w) n p e in
     record { place = r .1; why = by-mask s w n (sized s) (ltb 15 (w .mask)) refl refl (r .0) (r .2) }

@@ -62,9 +62,9 @@ by-tests is ms vs n p true false t u e = inr (inl (sym (number-one e), sym (plac
 by-tests is ms vs n p false b t u e =
     inl (sym (number-one e), sym (place-one e), λ q. false≢true (sym t ∙ lengths-level is ms vs (q .0) (q .1)))
 
-pub check-refused : (is ms vs : List ℕ) (n p : ℕ) → checkAnswer is ms vs ≡ refused n p → RunRefused is ms vs n p
+pub check-row : (is ms vs : List ℕ) (n p : ℕ) → checkAnswer is ms vs ≡ refused n p → RunRefused is ms vs n p
 unfolding checkAnswer
-check-refused is ms vs n p e = by-tests is ms vs n p (level is ms vs) (leb (length is) 4096) refl refl e
+check-row is ms vs n p e = by-tests is ms vs n p (level is ms vs) (leb (length is) 4096) refl refl e
 
 -- PACKING
 by-room : (l : List ℕ) (room n p : ℕ) (b : Bool) → leb (length l) room ≡ b
@@ -77,11 +77,11 @@ by-check : (is ms vs : List ℕ) (room n p : ℕ) (a : Answer) → checkAnswer i
     → andThen a (ifRoom (packed (writes is ms vs)) room) ≡ refused n p → PackRefused is ms vs room n p
 by-check is ms vs room n p (answered m) c e =
     inr (by-room (packed (writes is ms vs)) room n p (leb (length (packed (writes is ms vs))) room) refl e)
-by-check is ms vs room n p (refused m q) c e = inl (check-refused is ms vs n p (c ∙ e))
+by-check is ms vs room n p (refused m q) c e = inl (check-row is ms vs n p (c ∙ e))
 
-pub pack-refused : (is ms vs : List ℕ) (room n p : ℕ) → packAnswer is ms vs room ≡ refused n p → PackRefused is ms vs room n p
+pub pack-row : (is ms vs : List ℕ) (room n p : ℕ) → packAnswer is ms vs room ≡ refused n p → PackRefused is ms vs room n p
 unfolding packAnswer
-pack-refused is ms vs room n p e = by-check is ms vs room n p (checkAnswer is ms vs) refl e
+pack-row is ms vs room n p e = by-check is ms vs room n p (checkAnswer is ms vs) refl e
 
 -- 10 is no refusal of the writes
 below : (n : ℕ) → In n (9 ∷ 3 ∷ 4 ∷ 5 ∷ []) → n < 10
