@@ -4,6 +4,7 @@ pub mod NeverRead
 pub mod Reading
 pub mod Refusals
 pub mod RunRefusals
+pub mod FragmentRefusals
 pub mod Said
 pub mod Packing
 pub mod Seams
