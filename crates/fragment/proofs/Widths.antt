@@ -126,7 +126,8 @@ module _ (s : Settings) (g : Given) (incoming : ℕ) (stored : Stored) where
   -- THE TESTS AT THEIR WIDTHS
 
   -- the alpha test on the combiner's result
-  pub drawn-alpha : AtWidth 8 (λ code reference. alphaPasses (enabledAlpha code reference) (combinerOf (s .stages) (s .«buffer_fog») g .alpha))
+  pub drawn-alpha : AtWidth 8
+      (λ code reference. alphaPasses (enabledAlpha code reference) (combinerOf (s .stages) (s .«buffer_fog») g .alpha))
   drawn-alpha =
       let b = result-bytes (s .stages) (s .«buffer_fog») g in
       alpha-width alphaOf (omega (arith, b .alpha))
