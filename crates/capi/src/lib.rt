@@ -137,7 +137,8 @@ pub extern "C" fn pica_fragment(
         ⌝ }
     ensures stored { λ _. ⌜
         now (stored .exit)
-        ≡ storedAfter (fragmentOf (st (now (cells .entry)) (now (fog .entry)) (now (light .entry))) (now (given .entry))) (now (stored .entry))
+        ≡ storedAfter (fragmentOf (st (now (cells .entry)) (now (fog .entry)) (now (light .entry))) (now (given .entry)))
+        (now (stored .entry))
         ⌝ }
 {
     let g = colours::given_of(given);
