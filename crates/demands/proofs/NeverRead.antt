@@ -44,12 +44,13 @@ light-cells-long c = length-set c 0x1C5 (rise 256 (getD c 0x1C5 0))
 light-long : (c l : List ℕ) (v : ℕ) → length (lightEntries c l v) ≡ length l
 unfolding lightEntries
 light-long c l v =
-    pick-either (λ k. length k ≡ length l) (named (lightTable c)) (length-set l (lightPlace c) (entry (getD l (lightPlace c) 0) v)) refl
+    pick-either (λ (k : List ℕ). length k ≡ length l) (named (lightTable c))
+    (length-set l (lightPlace c) (entry (getD l (lightPlace c) 0) v)) refl
 
 cells-long : (c : List ℕ) (i e v : ℕ) → length (cellsAfter c i e v) ≡ length c
 unfolding cellsAfter
 cells-long c i e v =
-    pick-either (λ k. length k ≡ length c) (eqb (bitsOf i) 0) refl (length-set c i (merge (bitAnd (bitsOf i) e) (getD c i 0) v))
+    pick-either (λ (k : List ℕ). length k ≡ length c) (eqb (bitsOf i) 0) refl (length-set c i (merge (bitAnd (bitsOf i) e) (getD c i 0) v))
 
 module _ (s t : State) (a : Alike s t) where
   cells-alike : (i m v j : ℕ) → heldIn (cellsAfter (s .cells) i (spread m) v) j ≡ heldIn (cellsAfter (t .cells) i (spread m) v) j
@@ -90,7 +91,9 @@ module _ (s t : State) (a : Alike s t) where
       let x = getD (s .cells) 0x1C5 0 in
       let y = getD (t .cells) 0x1C5 0 in
       set-alike (λ x. bitAnd x (bitsOf j)) (s .cells) (t .cells) 0x1C5 j (rise 256 x) (rise 256 y) (a .cellsLong) (a .cells j)
-      (λ c. rw c (and-mask (rise 256 x) 13 ∙ rise-low x ∙ ap (λ (z : ℕ). rise 256 z) light-named ∙ sym (rise-low y) ∙ sym (and-mask (rise 256 y) 13)))
+      (λ c.
+      rw c (and-mask (rise 256 x) 13 ∙ rise-low x ∙ ap (λ (z : ℕ). rise 256 z) light-named ∙ sym (rise-low y)
+      ∙ sym (and-mask (rise 256 y) 13)))
 
   fog-entries : (v j : ℕ) → low (fogEntries (s .cells) (s .fog) v) j ≡ low (fogEntries (t .cells) (t .fog) v) j
   unfolding fogEntries
@@ -108,7 +111,8 @@ module _ (s t : State) (a : Alike s t) where
       go : (n : Bool)
           → low (pick n (set (s .light) (lightPlace (t .cells)) (entry (getD (s .light) (lightPlace (t .cells)) 0) v)) (s .light)) j
           ≡ low (pick n (set (t .light) (lightPlace (t .cells)) (entry (getD (t .light) (lightPlace (t .cells)) 0) v)) (t .light)) j
-      go true = set-alike (λ x. x % 0x1000000) (s .light) (t .light) (lightPlace (t .cells)) j _ _ (a .lightLong) (a .light j) (λ c. omega arith)
+      go true =
+          set-alike (λ x. x % 0x1000000) (s .light) (t .light) (lightPlace (t .cells)) j _ _ (a .lightLong) (a .light j) (λ c. omega arith)
       go false = a .light j
 
   -- ONE WRITE, in each of the three things that it can do
@@ -139,7 +143,8 @@ module _ (s t : State) (a : Alike s t) where
       }
 
   cell-done : (i m v : ℕ)
-      → Alike (st (cellsAfter (s .cells) i (spread m) v) (s .fog) (s .light)) (st (cellsAfter (t .cells) i (spread m) v) (t .fog) (t .light))
+      → Alike (st (cellsAfter (s .cells) i (spread m) v) (s .fog) (s .light))
+      (st (cellsAfter (t .cells) i (spread m) v) (t .fog) (t .light))
   cell-done i m v =
       record {
         cells = cells-alike i m v;
