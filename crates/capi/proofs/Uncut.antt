@@ -112,7 +112,8 @@ wrong-uncut : (i : ℕ) (ws : List Write) → valueIn (firstWrong i ws) ≤ i + 
 unfolding firstWrong
 wrong-uncut i [] = omega arith
 wrong-uncut i (w ∷ ws) =
-    unless-wrong (wrong (w .id) (w .mask)) i (i + suc (length ws)) (firstWrong (i + 1) ws) (omega arith) (omega (arith, wrong-uncut (i + 1) ws))
+    unless-wrong (wrong (w .id) (w .mask)) i (i + suc (length ws)) (firstWrong (i + 1) ws) (omega arith)
+    (omega (arith, wrong-uncut (i + 1) ws))
 
 by-level : (is ms vs : List ℕ) (a b : Bool) → (eqb (length is) (length ms) && eqb (length is) (length vs)) ≡ a → leb (length is) 4096 ≡ b
     → valueIn (pick a (pick b (firstWrong 0 (writes is ms vs)) (refused 8 0)) (refused 7 0)) ≤ 65536
@@ -165,7 +166,8 @@ abbrev pub placeOf : Decoded → ℕ
 placeOf (decoded.Held s) = 0
 placeOf (decoded.Refused r) = r .place
 
-by-code : (s : State) (a b : Bool) → placeOf (pick a (pick b (decoded.Held (settingsOf s)) (refusal 13 (namelessId s))) (refusal 6 0)) ≤ 0x117
+by-code : (s : State) (a b : Bool)
+    → placeOf (pick a (pick b (decoded.Held (settingsOf s)) (refusal 13 (namelessId s))) (refusal 6 0)) ≤ 0x117
 by-code s true true = omega arith
 by-code s true false = lowest-below (settingsOf s)
 by-code s false b = omega arith
@@ -193,13 +195,17 @@ unbuilt-below s =
     (pick-either (λ x. x ≤ 0x117) (formatUnbuilt (s .framebuffer .buffers .«colour_format»)) (omega arith) (omega arith)))
 
 by-depth : (s : Settings) (g : Given) (incoming : ℕ) (stored : Stored) (a b c : Bool)
-    → drawnValue (pick a (pick b (cuts.refusal 12 0) (pick c (cuts.refusal 12 1) (drawn.Done (outcomeOf s g incoming stored)))) (cuts.refusal 14 (unbuiltId s))) ≤ 0x117
+    → drawnValue
+    (pick a (pick b (cuts.refusal 12 0) (pick c (cuts.refusal 12 1) (drawn.Done (outcomeOf s g incoming stored))))
+    (cuts.refusal 14 (unbuiltId s)))
+    ≤ 0x117
 by-depth s g incoming stored true true c = omega arith
 by-depth s g incoming stored true false true = omega arith
 by-depth s g incoming stored true false false = omega (arith, verdict-below (outcomeOf s g incoming stored .verdict))
 by-depth s g incoming stored false b c = unbuilt-below s
 
-by-decoded : (d : Decoded) (g : Given) (incoming : ℕ) (stored : Stored) → placeOf d ≤ 0x117 → drawnValue (drawnFrom d g incoming stored) ≤ 0x117
+by-decoded : (d : Decoded) (g : Given) (incoming : ℕ) (stored : Stored)
+    → placeOf d ≤ 0x117 → drawnValue (drawnFrom d g incoming stored) ≤ 0x117
 unfolding drawnFrom drawnWith
 by-decoded (decoded.Refused r) g incoming stored h = h
 by-decoded (decoded.Held s) g incoming stored h =

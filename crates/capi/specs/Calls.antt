@@ -1,16 +1,15 @@
 -- What the C functions answer, over the definitions of the functions below them. A call answers one number of 64 bits: high 32 bits the
 -- refusal's number, 0 where it answered; low 32 bits the answer, or the refusal's place.
 use mathlib.Core.List.{List, [], _∷_}
-use Prim.Native.Nat.{ℕ, _+_, _*_, _/_, _%_}
+use Prim.Native.Nat.{ℕ, _+_, _*_, _%_}
 use lib.ListN.{getD}
 use Rattle.numbers.specs.Answer.{Answer, answered, refused}
 use Rattle.registers.specs.State.{State}
+use Rattle.settings.specs.Colours.{colourOf, wordOf}
 use Rattle.settings.specs.Flat.{flat}
-use Rattle.settings.specs.declared.records.Colour.{Colour}
 use Rattle.decode.specs.declared.Decoded.{Decoded}
 use Rattle.decode.specs.declared.Decoded.the-variants as decoded
 use Rattle.combiner.specs.declared.Given.{Given}
-use Rattle.stores.specs.Packed.{packed}
 use Rattle.stores.specs.Tests.{verdictNumber}
 use Rattle.fragment.specs.Drawn.{drawnOf}
 use Rattle.stores.specs.declared.Stored.{Stored}
@@ -33,11 +32,7 @@ abbrev pub fieldsAfter : Decoded → List ℕ → List ℕ
 fieldsAfter (decoded.Held s) old = flat s
 fieldsAfter (decoded.Refused r) old = old
 
--- pica_fragment: a colour has red in the low byte, then green, blue, alpha
-abbrev pub colourOf : ℕ → Colour
-colourOf x = record { red = x % 256; green = x / 0x100 % 256; blue = x / 0x10000 % 256; alpha = x / 0x1000000 % 256 }
-
--- seven colours: primary, fragment primary, fragment secondary, textures 0 to 3
+-- pica_fragment: seven colours, each a word: primary, fragment primary, fragment secondary, textures 0 to 3
 abbrev pub givenOf : List ℕ → Given
 givenOf ws =
     record {
@@ -64,7 +59,7 @@ fragmentCall (drawn.Refused r) = call (r .number) (r .place)
 
 -- colour, stencil, depth as then stored; untouched on a refusal
 abbrev pub storedWords : Stored → List ℕ
-storedWords s = packed (s .colour) ∷ s .stencil ∷ s .depth ∷ []
+storedWords s = wordOf (s .colour) ∷ s .stencil ∷ s .depth ∷ []
 
 abbrev pub storedAfter : Drawn → List ℕ → List ℕ
 storedAfter (drawn.Done o) old = storedWords (o .stored)

@@ -35,8 +35,13 @@ pub extern "C" fn pica_read(
     light: &mut [u32],
     list: &[u32],
 ) -> u64
-    ensures answer { λ r. ⌜ r ≡ answer (readAnswer (st (now (cells .entry)) (now (fog .entry)) (now (light .entry))) (now (list .entry))) ⌝ }
-    ensures state { λ _. ⌜ st (now (cells .exit)) (now (fog .exit)) (now (light .exit)) ≡ readState (st (now (cells .entry)) (now (fog .entry)) (now (light .entry))) (now (list .entry)) ⌝ }
+    ensures answer { λ r. ⌜
+        r ≡ answer (readAnswer (st (now (cells .entry)) (now (fog .entry)) (now (light .entry))) (now (list .entry)))
+        ⌝ }
+    ensures state { λ _. ⌜
+        st (now (cells .exit)) (now (fog .exit)) (now (light .exit))
+        ≡ readState (st (now (cells .entry)) (now (fog .entry)) (now (light .entry))) (now (list .entry))
+        ⌝ }
 {
     match reader::read(cells, fog, light, list) {
         ListVerdict::Accepted(n) => told(0, n),
@@ -54,8 +59,13 @@ pub extern "C" fn pica_write(
     mask: u32,
     value: u32,
 ) -> u64
-    ensures answer { λ r. ⌜ r ≡ answer (writeAnswer (st (now (cells .entry)) (now (fog .entry)) (now (light .entry))) (writing id mask value)) ⌝ }
-    ensures state { λ _. ⌜ st (now (cells .exit)) (now (fog .exit)) (now (light .exit)) ≡ writeState (st (now (cells .entry)) (now (fog .entry)) (now (light .entry))) (writing id mask value) ⌝ }
+    ensures answer { λ r. ⌜
+        r ≡ answer (writeAnswer (st (now (cells .entry)) (now (fog .entry)) (now (light .entry))) (writing id mask value))
+        ⌝ }
+    ensures state { λ _. ⌜
+        st (now (cells .exit)) (now (fog .exit)) (now (light .exit))
+        ≡ writeState (st (now (cells .entry)) (now (fog .entry)) (now (light .entry))) (writing id mask value)
+        ⌝ }
 {
     match registers::write(cells, fog, light, id, mask, value) {
         Written::Done => 0,
@@ -66,7 +76,12 @@ pub extern "C" fn pica_write(
 // Writes packed into the shortest list: how many words of the space it takes.
 #[no_mangle]
 pub extern "C" fn pica_pack(ids: &[u32], masks: &[u32], values: &[u32], space: &mut [u32]) -> u64
-    ensures { λ r. ⌜ (r ≡ answer (packAnswer (now (ids .entry)) (now (masks .entry)) (now (values .entry)) (length (now (space .entry))))) × (now (space .exit) ≡ packSpace (now (ids .entry)) (now (masks .entry)) (now (values .entry)) (now (space .entry))) ⌝ }
+    ensures answer { λ r. ⌜
+        r ≡ answer (packAnswer (now (ids .entry)) (now (masks .entry)) (now (values .entry)) (length (now (space .entry))))
+        ⌝ }
+    ensures space { λ _. ⌜
+        now (space .exit) ≡ packSpace (now (ids .entry)) (now (masks .entry)) (now (values .entry)) (now (space .entry))
+        ⌝ }
 {
     match packer::pack(ids, masks, values, space) {
         Packed::Words(n) => told(0, n),
@@ -82,7 +97,11 @@ pub extern "C" fn pica_decode(
     light: &[u32],
     fields: &mut [u32; 204],
 ) -> u64
-    ensures { λ r. ⌜ (r ≡ decodeCall (decodedOf (st (now (cells .entry)) (now (fog .entry)) (now (light .entry))))) × (now (fields .exit) ≡ fieldsAfter (decodedOf (st (now (cells .entry)) (now (fog .entry)) (now (light .entry)))) (now (fields .entry))) ⌝ }
+    ensures answer { λ r. ⌜ r ≡ decodeCall (decodedOf (st (now (cells .entry)) (now (fog .entry)) (now (light .entry)))) ⌝ }
+    ensures fields { λ _. ⌜
+        now (fields .exit)
+        ≡ fieldsAfter (decodedOf (st (now (cells .entry)) (now (fog .entry)) (now (light .entry)))) (now (fields .entry))
+        ⌝ }
 {
     match decode::decode(cells, fog, light) {
         Decoded::Held(settings) => {
@@ -113,7 +132,14 @@ pub extern "C" fn pica_fragment(
     given: &[u32; 11],
     stored: &mut [u32; 3],
 ) -> u64
-    ensures { λ r. ⌜ (r ≡ fragmentCall (fragmentOf (st (now (cells .entry)) (now (fog .entry)) (now (light .entry))) (now (given .entry)))) × (now (stored .exit) ≡ storedAfter (fragmentOf (st (now (cells .entry)) (now (fog .entry)) (now (light .entry))) (now (given .entry))) (now (stored .entry))) ⌝ }
+    ensures answer { λ r. ⌜
+        r ≡ fragmentCall (fragmentOf (st (now (cells .entry)) (now (fog .entry)) (now (light .entry))) (now (given .entry)))
+        ⌝ }
+    ensures stored { λ _. ⌜
+        now (stored .exit)
+        ≡ storedAfter (fragmentOf (st (now (cells .entry)) (now (fog .entry)) (now (light .entry))) (now (given .entry)))
+        (now (stored .entry))
+        ⌝ }
 {
     let g = colours::given_of(given);
     let old = colours::stored_of(given);

@@ -10,11 +10,13 @@ use Rattle.numbers.proofs.Tests.{and-true}
 use Rattle.settings.specs.declared.records.Colour.{Colour}
 use Rattle.settings.specs.declared.records.Stage.{Stage}
 use Rattle.settings.proofs.Bytes.{Bytes}
+use Rattle.settings.proofs.Inverse.{same-colour}
 use Rattle.combiner.specs.Modes.{combined}
 use Rattle.combiner.specs.Operands.{black}
 use Rattle.combiner.specs.Stage.{alphaMixed, stageOf}
-use Rattle.combiner.specs.Words.{unpacked, idle, colours, fromTable}
-use Rattle.combiner.proofs.Parts.{same-colour, colours-at, unpacked-bytes}
+use Rattle.settings.specs.Colours.{colourOf}
+use Rattle.combiner.specs.Words.{idle, colours, fromTable}
+use Rattle.combiner.proofs.Parts.{colours-at, colour-bytes}
 
 module _ (s : Stage) (cs : List Colour) (h : Bytes (getD cs 15 black)) where
   handed-on :
@@ -38,5 +40,5 @@ module _ (s : Stage) (cs : List Colour) (h : Bytes (getD cs 15 black)) where
       (eqb-true _ _ (f .0)) (eqb-true _ _ (f .1)) (eqb-true _ _ (g .0)) (eqb-true _ _ (g .1))
       (eqb-true _ _ (i .0)) (eqb-true _ _ (i .1)) (eqb-true _ _ (j .0)) (eqb-true _ _ (j .1))
 
-pub idle-word : (s : Stage) (ws : List ℕ) → idle s ≡ true → unpacked (getD ws 15 0) ≡ fromTable s (colours ws)
-idle-word s ws e = sym (idle-result s (colours ws) (rw (colours-at ws 15) (unpacked-bytes _)) e ∙ colours-at ws 15)
+pub idle-word : (s : Stage) (ws : List ℕ) → idle s ≡ true → colourOf (getD ws 15 0) ≡ fromTable s (colours ws)
+idle-word s ws e = sym (idle-result s (colours ws) (rw (colours-at ws 15) (colour-bytes _)) e ∙ colours-at ws 15)

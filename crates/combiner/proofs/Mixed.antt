@@ -16,7 +16,8 @@ use Rattle.combiner.specs.Modes.{addedMultiplied, combined, scaled}
 use Rattle.combiner.specs.Operands.{Sources, sourceOf, rgbOperand, alphaOperand}
 use Rattle.combiner.specs.Stage.{joined, alphaMixed, stageOf}
 use Rattle.combiner.specs.Chain.{bufferAfter}
-use Rattle.combiner.specs.Words.{unpacked, rgbIn, each3, rgbCombined, rgbScaled, ownAlpha, alphaFrom, colours, fromTable, tableAfter}
+use Rattle.settings.specs.Colours.{colourOf}
+use Rattle.combiner.specs.Words.{rgbIn, each3, rgbCombined, rgbScaled, ownAlpha, alphaFrom, colours, fromTable, tableAfter}
 use Rattle.combiner.specs.declared.dot.Rgb.{Rgb}
 use Rattle.combiner.proofs.Parts.{source-at, colours-at, colours-set}
 
@@ -34,15 +35,15 @@ last-mode mode a b c dot h = rw (List·getD-eq-default, List·getD-eq-default, L
 
 -- an RGB operand from a word of the table
 pub operand-at : (ws : List ℕ) (x code : ℕ) (a : Rgb)
-    → a ≡ rgbOperand code (unpacked (getD ws (x % 16) 0)) → a ≡ rgbOperand code (sourceOf (colours ws) (x % 16))
+    → a ≡ rgbOperand code (colourOf (getD ws (x % 16) 0)) → a ≡ rgbOperand code (sourceOf (colours ws) (x % 16))
 operand-at ws x code a e = rw (source-at ws x) e
 
 -- alpha by its own mode, from the words of the table
 pub own-at : (ws : List ℕ) (source operand mode dot : ℕ)
     → combined mode
-    (alphaOperand (bits operand 12 14) (unpacked (getD ws (source / 2 ^ 16 % 16) 0)))
-    (alphaOperand (bits operand 16 18) (unpacked (getD ws (source / 2 ^ 20 % 16) 0)))
-    (alphaOperand (bits operand 20 22) (unpacked (getD ws (source / 2 ^ 24 % 16) 0)))
+    (alphaOperand (bits operand 12 14) (colourOf (getD ws (source / 2 ^ 16 % 16) 0)))
+    (alphaOperand (bits operand 16 18) (colourOf (getD ws (source / 2 ^ 20 % 16) 0)))
+    (alphaOperand (bits operand 20 22) (colourOf (getD ws (source / 2 ^ 24 % 16) 0)))
     dot
     ≡ alphaFrom ws source operand mode dot
 own-at ws source operand mode dot =
@@ -68,9 +69,9 @@ stage-parts s from a b c m alpha ea eb ec em el =
 
 -- the table after a stage, from what the code stores
 pub step-table : (ws : List ℕ) (s : Stage) (k rgb alpha buffer result : ℕ)
-    → unpacked k ≡ s .colour
-    → unpacked buffer ≡ bufferAfter rgb alpha (record { previous = unpacked (getD ws 15 0); buffer = unpacked (getD ws 13 0) })
-    → unpacked result ≡ fromTable s (colours (set ws 14 k))
+    → colourOf k ≡ s .colour
+    → colourOf buffer ≡ bufferAfter rgb alpha (record { previous = colourOf (getD ws 15 0); buffer = colourOf (getD ws 13 0) })
+    → colourOf result ≡ fromTable s (colours (set ws 14 k))
     → colours (set (set (set ws 14 k) 13 buffer) 15 result) ≡ tableAfter s rgb alpha (colours ws)
 unfolding tableAfter
 step-table ws s k rgb alpha buffer result ek eb er =
@@ -89,26 +90,26 @@ same-buffer : (ws : List ℕ) (k : ℕ) → set (set ws 14 k) 13 (getD ws 13 0) 
 same-buffer ws k = rw (getD-set-other ws 14 13 k 0 (λ e. omega arith)) at (set-getD (set ws 14 k) 13 0)
 
 -- the same after a stage that has no bit of E0: the buffer stays
-pub step-table-0 : (ws : List ℕ) (s : Stage) (k result : ℕ) → unpacked k ≡ s .colour → unpacked result ≡ fromTable s (colours (set ws 14 k))
+pub step-table-0 : (ws : List ℕ) (s : Stage) (k result : ℕ) → colourOf k ≡ s .colour → colourOf result ≡ fromTable s (colours (set ws 14 k))
     → colours (set (set ws 14 k) 15 result) ≡ tableAfter s 0 0 (colours ws)
-unfolding unpacked
+unfolding colourOf
 step-table-0 ws s k result ek er = rw (same-buffer ws k) at (step-table ws s k 0 0 (getD ws 13 0) result ek refl er)
 
 picked : (s t : Bool) (previous buffer : ℕ)
-    → joined (rgbIn (pick s previous buffer)) (unpacked (pick t previous buffer) .alpha)
+    → joined (rgbIn (pick s previous buffer)) (colourOf (pick t previous buffer) .alpha)
     ≡ record {
-      red = pick s (unpacked previous .red) (unpacked buffer .red);
-      green = pick s (unpacked previous .green) (unpacked buffer .green);
-      blue = pick s (unpacked previous .blue) (unpacked buffer .blue);
-      alpha = pick t (unpacked previous .alpha) (unpacked buffer .alpha);
+      red = pick s (colourOf previous .red) (colourOf buffer .red);
+      green = pick s (colourOf previous .green) (colourOf buffer .green);
+      blue = pick s (colourOf previous .blue) (colourOf buffer .blue);
+      alpha = pick t (colourOf previous .alpha) (colourOf buffer .alpha);
     }
-unfolding unpacked
+unfolding colourOf
 picked true true previous buffer = refl
 picked true false previous buffer = refl
 picked false true previous buffer = refl
 picked false false previous buffer = refl
 
 pub picked-buffer : (rgb alpha previous buffer : ℕ)
-    → joined (rgbIn (pick (eqb rgb 1) previous buffer)) (unpacked (pick (eqb alpha 1) previous buffer) .alpha)
-    ≡ bufferAfter rgb alpha (record { previous = unpacked previous; buffer = unpacked buffer })
+    → joined (rgbIn (pick (eqb rgb 1) previous buffer)) (colourOf (pick (eqb alpha 1) previous buffer) .alpha)
+    ≡ bufferAfter rgb alpha (record { previous = colourOf previous; buffer = colourOf buffer })
 picked-buffer rgb alpha previous buffer = picked (eqb rgb 1) (eqb alpha 1) previous buffer

@@ -11,7 +11,8 @@ use Rattle.settings.specs.Ranges.{inCells}
 use Rattle.settings.specs.Stages.{stagesIn, bufferFogIn}
 use Rattle.combiner.specs.Operands.{Seen, black, byCode}
 use Rattle.combiner.specs.Chain.{resultOf, seenAfter, atFirst, combinerOf}
-use Rattle.combiner.specs.Words.{unpacked, tableAfter, tableAtLast, tableBy, combinerBy}
+use Rattle.settings.specs.Colours.{colourOf}
+use Rattle.combiner.specs.Words.{tableAfter, tableAtLast, tableBy, combinerBy}
 use Rattle.combiner.specs.declared.Given.{Given}
 
 -- one stage: the table by code, before and after
@@ -39,10 +40,10 @@ table-result stages b g =
     (seen-result g (stages .stage5) 0 0 _)
 
 -- FD's word is the buffer's colour
-fd-colour : (cells : List ℕ) → unpacked (getD cells 0xFD 0) ≡ bufferFogIn (inCells cells) .«buffer_colour»
-unfolding unpacked
+fd-colour : (cells : List ℕ) → colourOf (getD cells 0xFD 0) ≡ bufferFogIn (inCells cells) .«buffer_colour»
+unfolding colourOf
 fd-colour cells = refl
 
 pub table-word : (cells : List ℕ) (g : Given)
-    → getD (tableBy cells (byCode g black (atFirst (unpacked (getD cells 0xFD 0))))) 15 black ≡ combinerBy cells g
+    → getD (tableBy cells (byCode g black (atFirst (colourOf (getD cells 0xFD 0))))) 15 black ≡ combinerBy cells g
 table-word cells g = rw (fd-colour cells) (table-result (stagesIn (inCells cells)) (bufferFogIn (inCells cells)) g)

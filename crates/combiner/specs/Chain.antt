@@ -18,7 +18,8 @@ resultOf g s seen = stageOf s (sourcesOf (byCode g (s .colour) seen) (s .source)
 abbrev pub atFirst : Colour → Seen
 atFirst fd = record { previous = black; buffer = fd }
 
--- the buffer that the next stage sees: what this stage saw as Previous where this stage's bit of E0 is 1, else the buffer that it saw; RGB and alpha by their own bits
+-- the buffer that the next stage sees: what this stage saw as Previous where this stage's bit of E0 is 1, else the buffer that it saw;
+-- RGB and alpha by their own bits
 abbrev pub bufferAfter : ℕ → ℕ → Seen → Colour
 bufferAfter rgb alpha seen =
     record {

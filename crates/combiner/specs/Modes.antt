@@ -1,4 +1,5 @@
--- The combine modes on one channel: document 01's table, in the order of 002's codes. Operands a, b, c are bytes; division drops the fraction.
+-- The combine modes on one channel: document 01's table, in the order of 002's codes. Operands a, b, c are bytes; division drops the
+-- fraction.
 use mathlib.Core.List.{[], _∷_}
 use Prim.Native.Nat.{ℕ, _+_, _-_, _*_, _/_, min}
 use lib.ListN.{getD}
@@ -28,7 +29,8 @@ multipliedAdded a b c = toByte ((a * b + 255 * c) / 255)
 abbrev pub addedMultiplied : ℕ → ℕ → ℕ → ℕ
 addedMultiplied a b c = added a b * c / 255
 
--- by code, 0 replace to 9 add then multiply; 6 and 7 take the stage's dot3. Codes above 9 have no name and are taken as 9; `draw` refuses a state that holds one
+-- by code, 0 replace to 9 add then multiply; 6 and 7 take the stage's dot3. Codes above 9 have no name and are taken as 9; `draw` refuses
+-- a state that holds one
 unfoldable pub combined : ℕ → ℕ → ℕ → ℕ → ℕ → ℕ
 combined mode a b c dot =
     getD

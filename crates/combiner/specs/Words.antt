@@ -1,12 +1,13 @@
--- Not of the document: colours as words, red in the low byte, as a colour register holds them; and the table of colours by code, which
--- the code keeps in one array and changes from stage to stage.
+-- Not of the document: colours as words, by `colourOf` of settings; and the table of colours by code, which the code keeps in one array
+-- and changes from stage to stage.
 use mathlib.Core.Bool.{Bool, _&&_}
 use mathlib.Core.List.{List, map}
 use Prim.Native.Nat.{ℕ}
 use lib.Dec.{eqb}
 use lib.ListN.{getD, set}
 use Rattle.settings.specs.Ranges.{bits, inCells}
-use Rattle.settings.specs.Stages.{sourceIn, operandIn, combinerIn, colourIn, scaleIn, stagesIn, bufferFogIn}
+use Rattle.settings.specs.Colours.{colourOf}
+use Rattle.settings.specs.Stages.{sourceIn, operandIn, combinerIn, scaleIn, stagesIn, bufferFogIn}
 use Rattle.settings.specs.declared.records.Colour.{Colour}
 use Rattle.settings.specs.declared.records.Operand.{Operand}
 use Rattle.settings.specs.declared.records.Stage.{Stage}
@@ -21,10 +22,6 @@ use Rattle.combiner.specs.declared.Given.{Given}
 use Rattle.combiner.specs.declared.dot.Rgb.{Rgb}
 
 -- WORDS
-
--- the colour that a word is
-unfoldable pub unpacked : ℕ → Colour
-unpacked x = colourIn (bits x)
 
 abbrev pub rgb : ℕ → ℕ → ℕ → Rgb
 rgb r g b = record { red = r; green = g; blue = b }
@@ -95,7 +92,7 @@ idle s =
 
 -- the sixteen colours of a table of words
 abbrev pub colours : List ℕ → List Colour
-colours ws = map unpacked ws
+colours ws = map colourOf ws
 
 -- the six of them that the word of a source register names
 abbrev pub sourcesIn : List ℕ → ℕ → Sources

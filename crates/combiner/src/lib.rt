@@ -9,7 +9,9 @@ ghost use Rattle.settings.specs.Ranges.{inCells};
 ghost use Rattle.settings.specs.Stages.{stageIn};
 ghost use Rattle.combiner.specs.Operands.{black, byCode};
 ghost use Rattle.combiner.specs.Chain.{atFirst, bufferAfter};
-ghost use Rattle.combiner.specs.Words.{unpacked, colours, tableAfter, tableBy, combinerBy};
+ghost use Rattle.settings.specs.Colours.{colourOf};
+ghost use Rattle.combiner.specs.Words.{colours, tableAfter, tableBy, combinerBy};
+use settings::colours;
 use settings::records::Colour;
 
 mod dot;
@@ -32,7 +34,7 @@ pub struct Given {
 
 // The buffer that the next stage sees; rgb and alpha are this stage's bits of E0.
 fn buffer_after(rgb: u32, alpha: u32, previous: u32, buffer: u32) -> u32
-    ensures { λ r. ⌜ unpacked r ≡ bufferAfter rgb alpha (record { previous = unpacked previous; buffer = unpacked buffer }) ⌝ }
+    ensures { λ r. ⌜ colourOf r ≡ bufferAfter rgb alpha (record { previous = colourOf previous; buffer = colourOf buffer }) ⌝ }
 {
     words::join_alpha(
         words::choose(rgb == 1, previous, buffer),
@@ -59,8 +61,8 @@ fn step(cells: &[u32], b: usize, rgb: u32, alpha: u32, table: &mut [u32; 16])
     table[15] = result;
 }
 
-// Stage 0, as `step` would. E0 has no bit for it, so the buffer stays; and it isn't looked at for being idle: then it would hand on
-// zero, which few states ask of it.
+// Stage 0, as `step` would. E0 has no bit for it, so the buffer stays; and it isn't looked at for being idle: an idle stage 0 hands on
+// zero, which running it gives too.
 fn first_step(cells: &[u32], table: &mut [u32; 16])
     requires { ⌜ length (now cells) ≡ 768 ⌝ }
     ensures { λ _. ⌜
@@ -88,7 +90,7 @@ fn run_stages(cells: &[u32], table: &mut [u32; 16])
 
 // The table before stage 0, which sees zero as Previous and the buffer, FD, as Previous buffer.
 fn first_table(g: Given, buffer: u32) -> [u32; 16]
-    ensures { λ r. ⌜ colours r ≡ byCode g black (atFirst (unpacked buffer)) ⌝ }
+    ensures { λ r. ⌜ colours r ≡ byCode g black (atFirst (colourOf buffer)) ⌝ }
 {
     let primary = g.primary;
     let fragment_primary = g.fragment_primary;
@@ -100,13 +102,13 @@ fn first_table(g: Given, buffer: u32) -> [u32; 16]
     let constant = 0;
     let previous = 0;
     [
-        words::word_of(primary),
-        words::word_of(fragment_primary),
-        words::word_of(fragment_secondary),
-        words::word_of(texture0),
-        words::word_of(texture1),
-        words::word_of(texture2),
-        words::word_of(texture3),
+        colours::word_of(primary),
+        colours::word_of(fragment_primary),
+        colours::word_of(fragment_secondary),
+        colours::word_of(texture0),
+        colours::word_of(texture1),
+        colours::word_of(texture2),
+        colours::word_of(texture3),
         0,
         0,
         0,
@@ -123,7 +125,7 @@ fn first_table(g: Given, buffer: u32) -> [u32; 16]
 fn previous_in(table: &[u32; 16]) -> Colour
     ensures { λ r. ⌜ r ≡ getD (colours (now (table .entry))) 15 black ⌝ }
 {
-    words::colour_of(table[15])
+    colours::colour_of(table[15])
 }
 
 // The combiner's result for the colours given with a fragment, by the registers of the cells. For `fragment`, which tests their length

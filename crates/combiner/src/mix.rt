@@ -4,7 +4,8 @@ ghost use mathlib.Core.Path.{_≡_};
 ghost use Prim.Native.Nat.{_<_};
 ghost use Rattle.combiner.specs.Modes.{modulated, added, addedSigned, interpolated, subtracted, multipliedAdded, addedMultiplied};
 ghost use Rattle.combiner.specs.Operands.{rgbOperand};
-ghost use Rattle.combiner.specs.Words.{unpacked, rgb, rgbIn, dotIn, each2, each3, rgbCombined, rgbScaled};
+ghost use Rattle.settings.specs.Colours.{colourOf};
+ghost use Rattle.combiner.specs.Words.{rgb, rgbIn, dotIn, each2, each3, rgbCombined, rgbScaled};
 use crate::dot;
 use crate::modes;
 use crate::operands;
@@ -106,7 +107,7 @@ fn dot_rgb(x: u32, y: u32) -> u32
 // One choice by the mode for all three channels. x and y are the first two operands; the third, which its code names of a source, and the
 // dot3 are worked out only where a mode asks for them.
 pub fn mix_rgb(mode: u32, x: u32, y: u32, code: u32, source: u32) -> u32
-    ensures { λ r. ⌜ rgbIn r ≡ rgbCombined mode (rgbIn x) (rgbIn y) (rgbOperand code (unpacked source)) (dotIn x y) ⌝ }
+    ensures { λ r. ⌜ rgbIn r ≡ rgbCombined mode (rgbIn x) (rgbIn y) (rgbOperand code (colourOf source)) (dotIn x y) ⌝ }
 {
     match mode {
         0 => x,

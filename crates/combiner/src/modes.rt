@@ -4,7 +4,8 @@ ghost use Prim.Native.Nat.{_≤_, _*_, _/_};
 ghost use Rattle.combiner.specs.Modes.{toByte, modulated, added, addedSigned, interpolated, subtracted};
 ghost use Rattle.combiner.specs.Modes.{multipliedAdded, addedMultiplied, combined, factorOf};
 ghost use Rattle.combiner.specs.Operands.{alphaOperand};
-ghost use Rattle.combiner.specs.Words.{unpacked, dotIn};
+ghost use Rattle.settings.specs.Colours.{colourOf};
+ghost use Rattle.combiner.specs.Words.{dotIn};
 use crate::dot;
 use crate::operands;
 
@@ -74,7 +75,7 @@ pub fn add_multiply(a: u8, b: u8, c: u8) -> u8
 // Alpha by its mode, before its scale. a and b are the first two operands; the third, which its code names of a source, and the dot3 of
 // the first two RGB operands, x and y, are worked out only where the mode asks for them.
 pub fn combine(mode: u32, a: u8, b: u8, code: u32, source: u32, x: u32, y: u32) -> u8
-    ensures { λ r. ⌜ r ≡ combined mode a b (alphaOperand code (unpacked source)) (dotIn x y) ⌝ }
+    ensures { λ r. ⌜ r ≡ combined mode a b (alphaOperand code (colourOf source)) (dotIn x y) ⌝ }
 {
     match mode {
         0 => a,

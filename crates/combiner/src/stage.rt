@@ -6,7 +6,8 @@ ghost use Rattle.numbers.specs.Pick.{pick};
 ghost use Rattle.settings.specs.Ranges.{bits};
 ghost use Rattle.combiner.specs.Modes.{scaled};
 ghost use Rattle.combiner.specs.Stage.{joined};
-ghost use Rattle.combiner.specs.Words.{unpacked, rgbIn, dotIn, rgbScaled, stageFrom, idle, colours, alphaFrom, fromTable};
+ghost use Rattle.settings.specs.Colours.{colourOf};
+ghost use Rattle.combiner.specs.Words.{rgbIn, dotIn, rgbScaled, stageFrom, idle, colours, alphaFrom, fromTable};
 use crate::mix;
 use crate::modes;
 use crate::operands;
@@ -47,7 +48,7 @@ fn mix_alpha(
 
 // The scales, and RGB and alpha in one word.
 fn finish(scale: u32, mixed: u32, alpha: u8) -> u32
-    ensures { λ r. ⌜ unpacked r ≡ joined (rgbScaled (bits scale 0 1) (rgbIn mixed)) (scaled (bits scale 16 17) alpha) ⌝ }
+    ensures { λ r. ⌜ colourOf r ≡ joined (rgbScaled (bits scale 0 1) (rgbIn mixed)) (scaled (bits scale 16 17) alpha) ⌝ }
 {
     let low = mix::scale_rgb(scale % 4, mixed);
     let high = modes::times(alpha, modes::factor((scale >> 16) % 4));
@@ -56,7 +57,7 @@ fn finish(scale: u32, mixed: u32, alpha: u8) -> u32
 
 // A stage's result, every part of it; its constant stands in the table.
 pub fn run_stage(table: &[u32; 16], source: u32, operand: u32, combiner: u32, scale: u32) -> u32
-    ensures { λ r. ⌜ unpacked r ≡ fromTable (stageFrom source operand combiner scale) (colours (now (table .entry))) ⌝ }
+    ensures { λ r. ⌜ colourOf r ≡ fromTable (stageFrom source operand combiner scale) (colours (now (table .entry))) ⌝ }
 {
     let rgb0 = table[(source % 16) as usize];
     let rgb1 = table[((source >> 4) % 16) as usize];
@@ -81,7 +82,7 @@ fn is_idle(source: u32, operand: u32, combiner: u32, scale: u32) -> bool
 
 // A stage's result, where an idle stage is passed over.
 pub fn result(table: &[u32; 16], source: u32, operand: u32, combiner: u32, scale: u32) -> u32
-    ensures { λ r. ⌜ unpacked r ≡ fromTable (stageFrom source operand combiner scale) (colours (now (table .entry))) ⌝ }
+    ensures { λ r. ⌜ colourOf r ≡ fromTable (stageFrom source operand combiner scale) (colours (now (table .entry))) ⌝ }
 {
     if is_idle(source, operand, combiner, scale) {
         table[15]

@@ -1,28 +1,11 @@
-// Colours as words, red in the low byte. The contracts cite specs/Words.antt.
+// Parts of words that are colours, as `settings` packs them. The contracts cite specs/Words.antt.
 ghost use mathlib.Core.Path.{_≡_};
 ghost use Prim.Native.Nat.{_<_};
 ghost use Rattle.numbers.specs.Pick.{pick};
 ghost use Rattle.combiner.specs.Stage.{joined};
-ghost use Rattle.combiner.specs.Words.{unpacked, rgb, rgbIn};
+ghost use Rattle.settings.specs.Colours.{colourOf};
+ghost use Rattle.combiner.specs.Words.{rgb, rgbIn};
 use crate::dot::Rgb;
-use settings::records::Colour;
-
-pub fn word_of(c: Colour) -> u32
-    ensures { λ r. ⌜ unpacked r ≡ c ⌝ }
-{
-    c.red as u32 + c.green as u32 * 0x100 + c.blue as u32 * 0x10000 + c.alpha as u32 * 0x1000000
-}
-
-pub fn colour_of(x: u32) -> Colour
-    ensures { λ r. ⌜ r ≡ unpacked x ⌝ }
-{
-    Colour {
-        red: (x % 256) as u8,
-        green: ((x >> 8) % 256) as u8,
-        blue: ((x >> 16) % 256) as u8,
-        alpha: ((x >> 24) % 256) as u8,
-    }
-}
 
 pub fn rgb_of(x: u32) -> Rgb
     ensures { λ r. ⌜ r ≡ rgbIn x ⌝ }
@@ -49,7 +32,7 @@ pub fn grey(x: u8) -> u32
 
 // The red, green and blue of one word, and the alpha of another.
 pub fn join_alpha(low: u32, high: u32) -> u32
-    ensures { λ r. ⌜ unpacked r ≡ joined (rgbIn low) (unpacked high .alpha) ⌝ }
+    ensures { λ r. ⌜ colourOf r ≡ joined (rgbIn low) (colourOf high .alpha) ⌝ }
 {
     low % 0x1000000 + high / 0x1000000 * 0x1000000
 }

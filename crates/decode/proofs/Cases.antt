@@ -1,5 +1,5 @@
 -- What `is_decodable`, `refusal_of` and `decode` answer, by the tests that code makes. Assumes nothing.
-use mathlib.Core.Path.{_≡_, refl, sym, _∙_}
+use mathlib.Core.Path.{_≡_, refl, ap, sym, _∙_}
 use mathlib.Core.Bool.{Bool, true, false, not, _&&_}
 use Prim.Native.Nat.{ℕ}
 use lib.Dec.{eqb}
@@ -8,7 +8,8 @@ use Rattle.numbers.proofs.Tests.{and-true}
 use Rattle.registers.specs.State.{State, sized}
 use Rattle.settings.specs.declared.records.Settings.{Settings}
 use Rattle.decode.specs.Codes.{checks, anyLacks}
-use Rattle.decode.specs.Decoded.{settingsOf, namelessId, refusal, decodedOf, decodable, lengthRefusal, codeRefusal, refusalOf}
+use Rattle.decode.specs.Decoded.{told, settingsOf, namelessId, refusal, decodedOf, decodable, lengthRefusal, codeRefusal, refusalOf}
+use Rattle.decode.specs.declared.Decoded.{Decoded}
 use Rattle.decode.specs.declared.Decoded.the-variants.{Held, Refused}
 use Rattle.decode.proofs.Lowest.{lowest-none}
 
@@ -49,6 +50,10 @@ module _ (s : State) where
   pub all-named : sized s ≡ true → anyLacks (checks (settingsOf s)) ≡ false → decodedOf s ≡ Held (settingsOf s)
   unfolding decodedOf
   all-named e l = rw (e, lowest-none (settingsOf s), l)
+
+-- equal answers tell the same numbers
+pub both-told : {d d′ : Decoded} → d ≡ d′ → (d ≡ d′) × (told d ≡ told d′)
+both-told e = (e, ap told e)
 
 -- `decode`, BY WHETHER IT IS DECODABLE
 

@@ -1,4 +1,5 @@
--- Any two answers that the promise of `decode`, of `is_decodable` or of `refusal_of` allows are equal; the lent buffers are only read. Assumes nothing.
+-- Any two answers that the promise of `decode`, of `is_decodable` or of `refusal_of` allows are equal; the lent buffers are only read.
+-- Assumes nothing.
 use mathlib.Core.Path.{refl}
 use contract.Lifetimes.{Lfts}
 use borrow.Fn.Kinds.{Dens}
@@ -15,7 +16,7 @@ use Rattle.decode.proofs.refusal_of.Kinds as refusal-of-kinds
 
 pub decode-settled : (κs : Lfts 3) (a : Dens κs decode-kinds.ps) → Settles (λ e. tt {0}) (decode.Post κs a)
 decode-settled κs a =
-    settled _ _ (λ r. r) (λ r r′ e. e) (decodedOf (st (now (a .0)) (now (a .1 .0)) (now (a .1 .1 .0)))) tt (λ r e p. (p, refl))
+    settled _ _ (λ r. r) (λ r r′ e. e) (decodedOf (st (now (a .0)) (now (a .1 .0)) (now (a .1 .1 .0)))) tt (λ r e p. (p .0, refl))
 
 pub is-decodable-settled : (κs : Lfts 3) (a : Dens κs is-decodable-kinds.ps) → Settles (λ e. tt {0}) (is-decodable.Post κs a)
 is-decodable-settled κs a =

@@ -65,7 +65,9 @@ noFormat c = eqb c 1 || within 5 7 c
 -- THE REGISTERS: one of whose codes lacks a name
 
 abbrev pub sourceLacks : Source → Bool
-sourceLacks s = noSource (s .rgb0) || noSource (s .rgb1) || noSource (s .rgb2) || noSource (s .alpha0) || noSource (s .alpha1) || noSource (s .alpha2)
+sourceLacks s =
+    noSource (s .rgb0) || noSource (s .rgb1) || noSource (s .rgb2)
+    || noSource (s .alpha0) || noSource (s .alpha1) || noSource (s .alpha2)
 
 abbrev pub operandLacks : Operand → Bool
 operandLacks o = noOperand (o .rgb0) || noOperand (o .rgb1) || noOperand (o .rgb2)
@@ -83,7 +85,8 @@ abbrev pub operationLacks : ColourOperation → Bool
 operationLacks o = noFragmentMode (o .mode)
 
 abbrev pub functionLacks : BlendFunction → Bool
-functionLacks f = noBlend (f .«rgb_source») || noBlend (f .«rgb_destination») || noBlend (f .«alpha_source») || noBlend (f .«alpha_destination»)
+functionLacks f =
+    noBlend (f .«rgb_source») || noBlend (f .«rgb_destination») || noBlend (f .«alpha_source») || noBlend (f .«alpha_destination»)
 
 abbrev pub formatLacks : ColourFormat → Bool
 formatLacks f = noSize (f .size) || noFormat (f .format)

@@ -23,6 +23,10 @@ abbrev pub valuesOf : Decoded → List ℕ
 valuesOf (Held s) = flat s
 valuesOf (Refused r) = r .place ∷ []
 
+-- both as one list, the number first
+abbrev pub told : Decoded → List ℕ
+told d = numberOf d ∷ valuesOf d
+
 -- the fields of a state's cells
 abbrev pub settingsOf : State → Settings
 settingsOf s = settingsIn (inCells (s .cells))

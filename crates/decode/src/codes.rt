@@ -16,7 +16,8 @@ ghost use Rattle.decode.specs.Codes.{operationLacks, functionLacks, noDe
 ghost use Rattle.decode.specs.Codes.{stageChecks, frameChecks, checks, firstOf, lowest, anyOf, anyLacks};
 
 // A REGISTER'S CODES. Those of sources, operands and scales are tested all at once, and those of two stages in one word of 64 bits: of each
-// code's bits a, b, c, d (a scale has a and b), from bit 0 up, bit 0 is left where the code lacks a name, so that the word is 0 where all have one.
+// code's bits a, b, c, d (a scale has a and b), from bit 0 up, bit 0 is left where the code lacks a name, so that the word is 0 where all
+// have one.
 
 // Left for 7..Ch: where d differs from c AND (a OR b), and d OR (a AND b).
 fn sources_lack(x: u32, y: u32) -> u64

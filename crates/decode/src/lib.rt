@@ -5,7 +5,7 @@ ghost use lib.ListN.{length};
 ghost use Rattle.settings.specs.Ranges.{inCells};
 ghost use Rattle.settings.specs.Settings.{settingsIn};
 ghost use Rattle.decode.specs.Codes.{checks, lowest};
-ghost use Rattle.decode.specs.Decoded.{decodedOf, decodable, lengthRefusal, codeRefusal, refusalOf};
+ghost use Rattle.decode.specs.Decoded.{told, decodedOf, decodable, lengthRefusal, codeRefusal, refusalOf};
 use settings::records::Settings;
 use words::Refusal;
 
@@ -57,9 +57,11 @@ pub fn refusal_of(cells: &[u32], fog: &[u32], light: &[u32]) -> Refusal
     code_refusal(cells)
 }
 
-// The decoded state of the three buffers; or refused with 6 at place 0, or 13 at the lowest id that holds a code without a name.
+// The decoded state of the three buffers; or refused with 6 at place 0, or 13 at the lowest id that holds a code without a name. Its
+// numbers are those of `told`: 0 and the fields, or the refusal's number and place.
 pub fn decode(cells: &[u32], fog: &[u32], light: &[u32]) -> Decoded
-    ensures { λ r. ⌜ r ≡ decodedOf (st (now (cells .entry)) (now (fog .entry)) (now (light .entry))) ⌝ }
+    ensures answer { λ r. ⌜ r ≡ decodedOf (st (now (cells .entry)) (now (fog .entry)) (now (light .entry))) ⌝ }
+    ensures numbers { λ r. ⌜ told r ≡ told (decodedOf (st (now (cells .entry)) (now (fog .entry)) (now (light .entry)))) ⌝ }
 {
     if !registers::is_sized(cells, fog, light) {
         return Decoded::Refused(length_refusal());

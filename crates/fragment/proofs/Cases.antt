@@ -1,12 +1,13 @@
 -- What `draw` answers where the state is decoded, by the tests that code makes. Assumes nothing.
-use mathlib.Core.Path.{_≡_}
+use mathlib.Core.Path.{_≡_, ap}
 use Prim.Native.Nat.{ℕ, _<_, _≤_}
 use borrow.Author.Tests.{eq-eqb, ne-eqb, lt-ltb, le-ltb}
 use Rattle.settings.specs.declared.records.Settings.{Settings}
 use Rattle.combiner.specs.declared.Given.{Given}
-use Rattle.fragment.specs.Drawn.{outcomeOf, unbuiltId, largest, refusal, drawnWith}
+use Rattle.fragment.specs.Drawn.{outcomeOf, unbuiltId, largest, refusal, drawnWith, told}
 use Rattle.fragment.specs.declared.Outcome.{Outcome}
 use Rattle.stores.specs.declared.Stored.{Stored}
+use Rattle.fragment.specs.declared.Drawn.{Drawn}
 use Rattle.fragment.specs.declared.Drawn.the-variants.{Done}
 
 module _ (s : Settings) (g : Given) (incoming : ℕ) (stored : Stored) where
@@ -27,3 +28,7 @@ module _ (s : Settings) (g : Given) (incoming : ℕ) (stored : Stored) where
         → Done o ≡ drawnWith s g incoming stored
     unfolding drawnWith
     done o h k e = rw (eq-eqb (unbuiltId s) 0 built, ← t, le-ltb top incoming h, le-ltb top (stored .depth) k, e)
+
+-- equal answers tell the same numbers
+pub both-told : {d d′ : Drawn} → d ≡ d′ → (d ≡ d′) × (told d ≡ told d′)
+both-told e = (e, ap told e)

@@ -13,4 +13,4 @@ pub draw-settled : (κs : Lfts 3) (a : Dens κs draw-kinds.ps) → Settles (λ e
 draw-settled κs a =
     settled _ _ (λ r. r) (λ r r′ e. e)
     (drawnOf (st (now (a .0)) (now (a .1 .0)) (now (a .1 .1 .0))) (a .1 .1 .1 .0) (a .1 .1 .1 .1 .0) (a .1 .1 .1 .1 .1 .0))
-    tt (λ r e p. (p, refl))
+    tt (λ r e p. (p .0, refl))

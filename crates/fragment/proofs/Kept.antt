@@ -1,5 +1,5 @@
--- What keeps its contents: everything but stencil after a failure, all of it after an alpha failure, channels that 107 forbids, and bits outside the stencil buffer mask.
--- Assumes nothing.
+-- What keeps its contents: everything but stencil after a failure, all of it after an alpha failure, channels that 107 forbids, and bits
+-- outside the stencil buffer mask. Assumes nothing.
 use mathlib.Core.Path.{_≡_, refl}
 use Prim.Native.Nat.{ℕ, _<_}
 use Rattle.numbers.specs.Bits.{bit}

@@ -1,4 +1,5 @@
 pub mod Cases
 pub mod Kept
 pub mod Unbuilt
+pub mod Widths
 pub mod Determined

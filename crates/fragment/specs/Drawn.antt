@@ -94,7 +94,10 @@ drawnFrom (decoded.Held s) g incoming stored = drawnWith s g incoming stored
 abbrev pub drawnOf : State → Given → ℕ → Stored → Drawn
 drawnOf s g incoming stored = drawnFrom (decodedOf s) g incoming stored
 
--- the number and values for each case: 0, the verdict's number (the C paper's), and the colour, stencil and depth that are then stored; a refusal's number and its place
+-- THE NUMBERS TOLD
+
+-- the number and values for each case: 0, the verdict's number (the C paper's), and the colour, stencil and depth that are then stored; a
+-- refusal's number and its place
 abbrev pub numberOf : Drawn → ℕ
 numberOf (Done o) = 0
 numberOf (Refused r) = r .number
@@ -105,3 +108,7 @@ colourValues c rest = c .red ∷ c .green ∷ c .blue ∷ c .alpha ∷ rest
 abbrev pub valuesOf : Drawn → List ℕ
 valuesOf (Done o) = verdictNumber (o .verdict) ∷ colourValues (o .stored .colour) (o .stored .stencil ∷ o .stored .depth ∷ [])
 valuesOf (Refused r) = r .place ∷ []
+
+-- both as one list, the number first
+abbrev pub told : Drawn → List ℕ
+told d = numberOf d ∷ valuesOf d

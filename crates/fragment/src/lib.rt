@@ -6,7 +6,7 @@ ghost use Rattle.registers.specs.State.{st};
 ghost use Rattle.settings.specs.Ranges.{bits, inCells};
 ghost use Rattle.settings.specs.Framebuffer.{operationIn, formatIn};
 ghost use Rattle.settings.specs.Settings.{settingsIn};
-ghost use Rattle.fragment.specs.Drawn.{outcomeOf, operationUnbuilt, formatUnbuilt, unbuiltId, largest, drawnWith, drawnOf};
+ghost use Rattle.fragment.specs.Drawn.{outcomeOf, operationUnbuilt, formatUnbuilt, unbuiltId, largest, drawnWith, drawnOf, told};
 use combiner::Given;
 use stores::Stored;
 use stores::Verdict;
@@ -108,7 +108,7 @@ fn draw_with(cells: &[u32], g: Given, incoming: u32, stored: Stored) -> Drawn
 }
 
 // What becomes of a fragment: the verdict, and the colour, stencil and depth that are then stored; or refused with 6 at 0, 13 or 14 at
-// the lowest id, or 12 at 0 for the incoming depth, 1 for the stored.
+// the lowest id, or 12 at 0 for the incoming depth, 1 for the stored. Its numbers are those of `told`.
 pub fn draw(
     cells: &[u32],
     fog: &[u32],
@@ -117,7 +117,10 @@ pub fn draw(
     incoming: u32,
     stored: Stored,
 ) -> Drawn
-    ensures { λ r. ⌜ r ≡ drawnOf (st (now (cells .entry)) (now (fog .entry)) (now (light .entry))) given incoming stored ⌝ }
+    ensures answer { λ r. ⌜ r ≡ drawnOf (st (now (cells .entry)) (now (fog .entry)) (now (light .entry))) given incoming stored ⌝ }
+    ensures numbers { λ r. ⌜
+        told r ≡ told (drawnOf (st (now (cells .entry)) (now (fog .entry)) (now (light .entry))) given incoming stored)
+        ⌝ }
 {
     if decode::is_decodable(cells, fog, light) {
         draw_with(cells, given, incoming, stored)

@@ -31,4 +31,6 @@ pub held-once : (i k : ℕ) → i < 768 → k < 32 → holding k (ofId i fieldTa
 unfolding bitsRight
 held-once i k h l =
     let fs = ofId i fieldTable in
-    eqb→eq (holding k fs) (bit k (bitsOf i)) (at (bitsRight fs (bitsOf i)) (replicate 32 0) (id-right i h) k (omega (arith, length-replicate {A = ℕ} 32 0)))
+    let right = bitsRight fs (bitsOf i) in
+    let t = at right (replicate 32 0) (id-right i h) k (omega (arith, length-replicate {A = ℕ} 32 0)) in
+    eqb→eq (holding k fs) (bit k (bitsOf i)) t

@@ -1,4 +1,5 @@
--- The decoded state as one list of 204 words, in the order of the field table: ids ascending and then lowest bit first, signed fields in two's complement.
+-- The decoded state as one list of 204 words, in the order of the field table: ids ascending and then lowest bit first, signed fields in
+-- two's complement.
 use mathlib.Core.List.{List, [], _∷_, _++_}
 use Prim.Native.Nat.{ℕ}
 use Rattle.settings.specs.Fields.{twos}

@@ -3,11 +3,11 @@ ghost use mathlib.Core.Path.{_≡_};
 ghost use lib.ListN.{length};
 ghost use Rattle.settings.specs.Ranges.{inCells};
 ghost use Rattle.settings.specs.Framebuffer.{blendingIn, testsIn, buffersIn, framebufferIn};
+use crate::colours;
 use crate::records::AlphaTest;
 use crate::records::BlendFunction;
 use crate::records::Blending;
 use crate::records::Buffers;
-use crate::records::Colour;
 use crate::records::ColourFormat;
 use crate::records::ColourOperation;
 use crate::records::DepthAllowed;
@@ -41,12 +41,7 @@ fn read_blending(cells: &[u32]) -> Blending
             alpha_destination: (function >> 28) % 16,
         },
         logic_op: cells[0x102] % 16,
-        colour: Colour {
-            red: (colour % 256) as u8,
-            green: ((colour >> 8) % 256) as u8,
-            blue: ((colour >> 16) % 256) as u8,
-            alpha: ((colour >> 24) % 256) as u8,
-        },
+        colour: colours::colour_of(colour),
     }
 }
 

@@ -1,4 +1,5 @@
-// The settings: the fields of the 66 held registers as nested records, 204 in all, and how they are read from the cells. The contract of `read_settings` cites specs/Settings.antt.
+// The settings: the fields of the 66 held registers as nested records, 204 in all, and how they are read from the cells. The contract of
+// `read_settings` cites specs/Settings.antt.
 ghost use mathlib.Core.Path.{_≡_};
 ghost use lib.ListN.{length};
 ghost use Rattle.settings.specs.Ranges.{bits, inCells};
@@ -6,6 +7,7 @@ ghost use Rattle.settings.specs.Settings.{lightPortIn, settingsIn};
 use crate::records::LightPort;
 use crate::records::Settings;
 
+pub mod colours;
 mod frame;
 mod raster;
 pub mod records;

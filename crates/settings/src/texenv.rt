@@ -4,8 +4,8 @@ ghost use Prim.Native.Nat.{_<_};
 ghost use lib.ListN.{length};
 ghost use Rattle.settings.specs.Ranges.{inCells};
 ghost use Rattle.settings.specs.Stages.{stageIn, stagesIn, bufferFogIn};
+use crate::colours;
 use crate::records::BufferFog;
-use crate::records::Colour;
 use crate::records::Combiner;
 use crate::records::FogColour;
 use crate::records::Operand;
@@ -46,12 +46,7 @@ fn read_stage(cells: &[u32], b: usize) -> Stage
             rgb: combiner % 16,
             alpha: (combiner >> 16) % 16,
         },
-        colour: Colour {
-            red: (colour % 256) as u8,
-            green: ((colour >> 8) % 256) as u8,
-            blue: ((colour >> 16) % 256) as u8,
-            alpha: ((colour >> 24) % 256) as u8,
-        },
+        colour: colours::colour_of(colour),
         scale: Scale {
             rgb: scale % 4,
             alpha: (scale >> 16) % 4,
@@ -102,11 +97,6 @@ pub fn read_buffer_fog(cells: &[u32]) -> BufferFog
             blue: ((fog >> 16) % 256) as u8,
         },
         fog_index: cells[0xE6] % 128,
-        buffer_colour: Colour {
-            red: (buffer % 256) as u8,
-            green: ((buffer >> 8) % 256) as u8,
-            blue: ((buffer >> 16) % 256) as u8,
-            alpha: ((buffer >> 24) % 256) as u8,
-        },
+        buffer_colour: colours::colour_of(buffer),
     }
 }

@@ -1,5 +1,5 @@
--- What keeps its contents under one verdict: colour and depth after a failure, stencil after an alpha failure, channels that 107 forbids, and bits outside the stencil buffer mask.
--- Assumes nothing.
+-- What keeps its contents under one verdict: colour and depth after a failure, stencil after an alpha failure, channels that 107 forbids,
+-- and bits outside the stencil buffer mask. Assumes nothing.
 use mathlib.Core.Path.{_≡_, refl, _∙_}
 use mathlib.Core.Bool.{Bool, true, false, not, _&&_}
 use Prim.Native.Nat.{ℕ, _<_}
@@ -71,12 +71,18 @@ pub channel-kept : (writing allowed new old : ℕ) → allowed ≡ 0 → channel
 channel-kept writing allowed new old e = rw e (channel-by (not (eqb writing 0)) new old)
 
 -- a bit outside the mask
-module _ (f : Framebuffer) (small : f .tests .stencil .«buffer_mask» < 256) (k : ℕ) (l : k < 8) (out : bit k (f .tests .stencil .«buffer_mask») ≡ 0) where
-  pub bit-kept-by : (op stored : ℕ) → bit k (stencilBy f op stored) ≡ bit k stored
-  bit-kept-by op stored =
-      let m = f .tests .stencil .«buffer_mask» in
-      let new = operated op stored (f .tests .stencil .reference) in
-      either (λ x. bit k x ≡ bit k stored)
-      (stencilActive (f .tests .stencil) (f .buffers .«depth_format») && eqb (f .buffers .«depth_writing» .stencil) 1)
-      (masked m stored new) stored
-      (merge-bit k m stored new (omega arith) (omega arith) ∙ rw out) refl
+module _
+    (f : Framebuffer)
+    (small : f .tests .stencil .«buffer_mask» < 256)
+    (k : ℕ)
+    (l : k < 8)
+    (out : bit k (f .tests .stencil .«buffer_mask») ≡ 0)
+  where
+    pub bit-kept-by : (op stored : ℕ) → bit k (stencilBy f op stored) ≡ bit k stored
+    bit-kept-by op stored =
+        let m = f .tests .stencil .«buffer_mask» in
+        let new = operated op stored (f .tests .stencil .reference) in
+        either (λ x. bit k x ≡ bit k stored)
+        (stencilActive (f .tests .stencil) (f .buffers .«depth_format») && eqb (f .buffers .«depth_writing» .stencil) 1)
+        (masked m stored new) stored
+        (merge-bit k m stored new (omega arith) (omega arith) ∙ rw out) refl

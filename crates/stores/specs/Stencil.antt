@@ -4,7 +4,8 @@ use Prim.Native.Nat.{ℕ, _+_, _-_, _%_, min}
 use lib.ListN.{getD}
 use Rattle.numbers.specs.Bits.{merge}
 
--- operations 0-7: keep, zero, replace by reference, increment and decrement that stop at 255 and 0, invert, increment and decrement that wrap
+-- operations 0-7: keep, zero, replace by reference, increment and decrement that stop at 255 and 0, invert, increment and decrement that
+-- wrap
 abbrev pub operated : ℕ → ℕ → ℕ → ℕ
 operated op stored reference =
     getD

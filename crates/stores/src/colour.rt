@@ -3,31 +3,12 @@ ghost use mathlib.Core.Path.{_≡_};
 ghost use lib.ListN.{length};
 ghost use Rattle.settings.specs.Ranges.{bits, inCells};
 ghost use Rattle.settings.specs.Framebuffer.{depthIn, framebufferIn};
-ghost use Rattle.settings.specs.Stages.{colourIn};
 ghost use Rattle.numbers.specs.Pick.{pick};
 ghost use Rattle.stores.specs.Logic.{logical, logicalColour};
 ghost use Rattle.stores.specs.Stores.{colourUnder, colourAfter};
-ghost use Rattle.stores.specs.Packed.{packed};
 use crate::Verdict;
+use settings::colours;
 use settings::records::Colour;
-
-// A colour as one word, as a colour register holds it.
-fn pack(c: Colour) -> u32
-    ensures { λ r. ⌜ r ≡ packed c ⌝ }
-{
-    c.red as u32 + c.green as u32 * 0x100 + c.blue as u32 * 0x10000 + c.alpha as u32 * 0x1000000
-}
-
-fn unpack(x: u32) -> Colour
-    ensures { λ r. ⌜ r ≡ colourIn (bits x) ⌝ }
-{
-    Colour {
-        red: (x % 256) as u8,
-        green: ((x >> 8) % 256) as u8,
-        blue: ((x >> 16) % 256) as u8,
-        alpha: ((x >> 24) % 256) as u8,
-    }
-}
 
 fn logic(op: u32, s: u32, d: u32) -> u32
     ensures { λ r. ⌜ r ≡ logical 0xFFFFFFFF op s d ⌝ }
@@ -54,11 +35,11 @@ fn logic(op: u32, s: u32, d: u32) -> u32
     by_code[(op % 16) as usize]
 }
 
-// The four channels at once.
+// The four channels at once, as words.
 fn logic_colour(op: u32, s: Colour, d: Colour) -> Colour
     ensures { λ r. ⌜ r ≡ logicalColour op s d ⌝ }
 {
-    unpack(logic(op, pack(s), pack(d)))
+    colours::colour_of(logic(op, colours::word_of(s), colours::word_of(d)))
 }
 
 fn keep_or(write: bool, new: u8, old: u8) -> u8

@@ -20,11 +20,15 @@ told-requires c κs = search needs
 
 returns : tie.Need-returns
 returns c =
-    (rw (← c .before .before .before .before .before .decode .ensures, c .before .before .before .settings .given .1), rw (← c .before .before .before .before .before .decode .ensures, c .before .before .before .settings .given .1) (c .lay-settings .ensures))
+    let d = c .before .before .before .before .before .decode .ensures .0 in
+    let held = c .before .before .before .settings .given .1 in
+    (rw (← d, held), rw (← d, held) (c .lay-settings .ensures))
 
 returns-2 : tie.Need-returns-2
 returns-2 c =
-    (rw (← c .before .before .before .before .decode .ensures, c .before .before .why .given .1, c .told .ensures), rw (← c .before .before .before .before .decode .ensures, c .before .before .why .given .1))
+    let d = c .before .before .before .before .decode .ensures .0 in
+    let refused = c .before .before .why .given .1 in
+    (rw (← d, refused, c .told .ensures), rw (← d, refused))
 
 pub pica-decode-spec : {M : Type 1} → statement M
 pica-decode-spec =

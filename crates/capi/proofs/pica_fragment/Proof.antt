@@ -34,10 +34,22 @@ told-requires-2 : tie.Need-told-requires-2
 told-requires-2 c κs = search needs
 
 returns : tie.Need-returns
-returns c = (rw (← c .before .before .before .before .before .before .before .before .before .before .given-of .ensures, ← c .before .before .before .before .before .before .before .before .before .stored-of .ensures, ← c .before .before .before .before .before .before .before .draw .ensures, c .before .before .before .before .before .o .given .1, c .told .ensures, c .before .verdict-number .ensures), rw (← c .before .before .before .before .before .before .before .before .before .before .given-of .ensures, ← c .before .before .before .before .before .before .before .before .before .stored-of .ensures, ← c .before .before .before .before .before .before .before .draw .ensures, c .before .before .before .before .before .o .given .1, c .before .before .words-stored .ensures))
+returns c =
+    let given = c .before .before .before .before .before .before .before .before .before .before .given-of .ensures in
+    let stored = c .before .before .before .before .before .before .before .before .before .stored-of .ensures in
+    let d = c .before .before .before .before .before .before .before .draw .ensures .0 in
+    let done = c .before .before .before .before .before .o .given .1 in (
+      rw (← given, ← stored, ← d, done, c .told .ensures, c .before .verdict-number .ensures),
+      rw (← given, ← stored, ← d, done, c .before .before .words-stored .ensures),
+    )
 
 returns-2 : tie.Need-returns-2
-returns-2 c = (rw (← c .before .before .before .before .before .before .before .given-of .ensures, ← c .before .before .before .before .before .before .stored-of .ensures, ← c .before .before .before .before .draw .ensures, c .before .before .why .given .1, c .told2 .ensures), rw (← c .before .before .before .before .before .before .before .given-of .ensures, ← c .before .before .before .before .before .before .stored-of .ensures, ← c .before .before .before .before .draw .ensures, c .before .before .why .given .1))
+returns-2 c =
+    let given = c .before .before .before .before .before .before .before .given-of .ensures in
+    let stored = c .before .before .before .before .before .before .stored-of .ensures in
+    let d = c .before .before .before .before .draw .ensures .0 in
+    let refused = c .before .before .why .given .1 in
+    (rw (← given, ← stored, ← d, refused, c .told2 .ensures), rw (← given, ← stored, ← d, refused))
 
 pub pica-fragment-spec : {M : Type 1} → statement M
 pica-fragment-spec =

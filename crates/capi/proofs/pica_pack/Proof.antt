@@ -22,13 +22,17 @@ same-length : tie.Need-same-length
 same-length c = search needs
 
 returns : tie.Need-returns
-returns c = (rw (← c .before .before .before .before .before .before .pack .ensures .0, c .before .before .n .given .1, c .told .ensures), c .before .before .before .before .before .before .pack .ensures .1)
+returns c =
+    let p = c .before .before .before .before .before .before .pack in
+    (rw (← p .ensures .0, c .before .before .n .given .1, c .told .ensures), p .ensures .1)
 
 same-length-2 : tie.Need-same-length-2
 same-length-2 c = search needs
 
 returns-2 : tie.Need-returns-2
-returns-2 c = (rw (← c .before .before .before .before .before .before .pack .ensures .0, c .before .before .why .given .1, c .told2 .ensures), c .before .before .before .before .before .before .pack .ensures .1)
+returns-2 c =
+    let p = c .before .before .before .before .before .before .pack in
+    (rw (← p .ensures .0, c .before .before .why .given .1, c .told2 .ensures), p .ensures .1)
 
 pub pica-pack-spec : {M : Type 1} → statement M
 pica-pack-spec =

@@ -28,7 +28,9 @@ same-length-3 : tie.Need-same-length-3
 same-length-3 c = search needs
 
 returns : tie.Need-returns
-returns c = (rw (← c .before .before .before .before .before .before .before .before .before .before .read .ensures .0, c .before .before .n .given .1, c .told .ensures), c .before .before .before .before .before .before .before .before .before .before .read .ensures .1)
+returns c =
+    let r = c .before .before .before .before .before .before .before .before .before .before .read in
+    (rw (← r .ensures .0, c .before .before .n .given .1, c .told .ensures), r .ensures .1)
 
 same-length-4 : tie.Need-same-length-4
 same-length-4 c = search needs
@@ -40,7 +42,9 @@ same-length-6 : tie.Need-same-length-6
 same-length-6 c = search needs
 
 returns-2 : tie.Need-returns-2
-returns-2 c = (rw (← c .before .before .before .before .before .before .before .before .before .before .read .ensures .0, c .before .before .why .given .1, c .told2 .ensures), c .before .before .before .before .before .before .before .before .before .before .read .ensures .1)
+returns-2 c =
+    let r = c .before .before .before .before .before .before .before .before .before .before .read in
+    (rw (← r .ensures .0, c .before .before .why .given .1, c .told2 .ensures), r .ensures .1)
 
 pub pica-read-spec : {M : Type 1} → statement M
 pica-read-spec =

@@ -25,7 +25,9 @@ same-length-3 : tie.Need-same-length-3
 same-length-3 c = search needs
 
 returns : tie.Need-returns
-returns c = (rw (← c .before .before .before .before .before .before .before .before .write .ensures .0, c .enum-told .given .1), c .before .before .before .before .before .before .before .before .write .ensures .1)
+returns c =
+    let w = c .before .before .before .before .before .before .before .before .write in
+    (rw (← w .ensures .0, c .enum-told .given .1), w .ensures .1)
 
 same-length-4 : tie.Need-same-length-4
 same-length-4 c = search needs
@@ -37,7 +39,9 @@ same-length-6 : tie.Need-same-length-6
 same-length-6 c = search needs
 
 returns-2 : tie.Need-returns-2
-returns-2 c = (rw (← c .before .before .before .before .before .before .before .before .before .before .write .ensures .0, c .before .before .why .given .1, c .told .ensures), c .before .before .before .before .before .before .before .before .before .before .write .ensures .1)
+returns-2 c =
+    let w = c .before .before .before .before .before .before .before .before .before .before .write in
+    (rw (← w .ensures .0, c .before .before .why .given .1, c .told .ensures), w .ensures .1)
 
 pub pica-write-spec : {M : Type 1} → statement M
 pica-write-spec =

@@ -4,7 +4,7 @@ use lib.ListN.{getD}
 use Rattle.settings.specs.Ranges.{inCells}
 use Rattle.settings.specs.Stages.{stageIn}
 use Rattle.combiner.specs.Stage.{alphaMixed, stageOf}
-use Rattle.combiner.specs.Words.{unpacked}
+use Rattle.settings.specs.Colours.{colourOf}
 use Rattle.combiner.proofs.Mixed.{step-table-0}
 use borrow.Author.Needs.{needs}
 use Rattle.combiner.proofs.first_step.Statement.{statement}
@@ -35,10 +35,11 @@ element-write-table-2 : tie.Need-element-write-table-2
 element-write-table-2 c = search needs
 
 returns : tie.Need-returns
-unfolding unpacked alphaMixed stageOf
+unfolding colourOf alphaMixed stageOf
 returns c =
     let a = c .before .before .before .before .before .before .before .before .args in
-    step-table-0 (a .table .now) (stageIn (inCells (a .cells .now)) 0xC0) (getD (a .cells .now) 0xC3 0) (c .run-stage .result) refl (c .run-stage .ensures)
+    let cells = a .cells .now in
+    step-table-0 (a .table .now) (stageIn (inCells cells) 0xC0) (getD cells 0xC3 0) (c .run-stage .result) refl (c .run-stage .ensures)
 
 pub first-step-spec : {M : Type 1} → statement M
 first-step-spec =

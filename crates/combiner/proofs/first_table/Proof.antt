@@ -1,5 +1,5 @@
 -- As the calls ensure. Assumes nothing.
-use Rattle.combiner.specs.Words.{unpacked}
+use Rattle.settings.specs.Colours.{colourOf}
 use borrow.Author.Needs.{needs}
 use Rattle.combiner.proofs.first_table.Statement.{statement}
 use Rattle.combiner.proofs.first_table.Tie as tie
@@ -26,16 +26,16 @@ word-of-requires-7 : tie.Need-word-of-requires-7
 word-of-requires-7 c κs = search needs
 
 returns : tie.Need-returns
-unfolding unpacked
+unfolding colourOf
 returns c =
     rw (
-      c .word-of7 .ensures,
-      c .before .word-of6 .ensures,
-      c .before .before .word-of5 .ensures,
-      c .before .before .before .word-of4 .ensures,
-      c .before .before .before .before .word-of3 .ensures,
-      c .before .before .before .before .before .word-of2 .ensures,
-      c .before .before .before .before .before .before .word-of .ensures,
+      c .word-of7 .ensures .1,
+      c .before .word-of6 .ensures .1,
+      c .before .before .word-of5 .ensures .1,
+      c .before .before .before .word-of4 .ensures .1,
+      c .before .before .before .before .word-of3 .ensures .1,
+      c .before .before .before .before .before .word-of2 .ensures .1,
+      c .before .before .before .before .before .before .word-of .ensures .1,
     )
 
 pub first-table-spec : {M : Type 1} → statement M

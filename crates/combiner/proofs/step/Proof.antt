@@ -1,7 +1,7 @@
 -- What is stored, as the calls ensure. Assumes nothing.
 use Rattle.combiner.proofs.Mixed.{step-table}
 use Rattle.combiner.specs.Stage.{alphaMixed, stageOf}
-use Rattle.combiner.specs.Words.{unpacked}
+use Rattle.settings.specs.Colours.{colourOf}
 use mathlib.Core.Path.{refl}
 use Rattle.settings.specs.Ranges.{inCells}
 use Rattle.settings.specs.Stages.{stageIn}
@@ -75,7 +75,7 @@ element-write-table-3 : tie.Need-element-write-table-3
 element-write-table-3 c = search needs
 
 returns : tie.Need-returns
-unfolding unpacked alphaMixed stageOf
+unfolding colourOf alphaMixed stageOf
 returns c =
     let a = c .before .before .before .before .before .before .before .before .before .before .before .args in
     step-table (a .table .now) (stageIn (inCells (a .cells .now)) (a .b)) (getD (a .cells .now) (a .b + 3) 0) (a .rgb) (a .alpha)

@@ -4,7 +4,7 @@ use borrow.Author.Tests.{not-true, not-false}
 use Rattle.registers.specs.State.{st}
 use Rattle.registers.proofs.Sizes.{lengths}
 use Rattle.decode.specs.declared.Decoded.the-variants.{Held, Refused}
-use Rattle.decode.proofs.Cases.{length-refused, code-refused, all-named}
+use Rattle.decode.proofs.Cases.{length-refused, code-refused, all-named, both-told}
 use borrow.Author.Needs.{needs}
 use Rattle.decode.proofs.decode.Statement.{statement}
 use Rattle.decode.proofs.decode.Tie as tie
@@ -18,7 +18,7 @@ length-refusal-requires c κs = search needs
 returns : tie.Need-returns
 returns c =
     let e = sym (c .before .before .is-sized .ensures) ∙ not-true _ (c .before .if1 .taken) in
-    ap Refused (c .length-refusal .ensures) ∙ sym (length-refused _ e)
+    both-told (ap Refused (c .length-refusal .ensures) ∙ sym (length-refused _ e))
 
 any-lacks-requires : tie.Need-any-lacks-requires
 any-lacks-requires c κs =
@@ -36,7 +36,7 @@ returns-2 : tie.Need-returns-2
 returns-2 c =
     let e = sym (c .before .before .before .before .is-sized .ensures) ∙ not-false _ (c .before .before .before .if1 .left) in
     let l = sym (c .before .before .any-lacks .ensures) ∙ c .before .if2 .taken in
-    ap Refused (c .code-refusal .ensures) ∙ sym (code-refused _ e l)
+    both-told (ap Refused (c .code-refusal .ensures) ∙ sym (code-refused _ e l))
 
 read-settings-requires : tie.Need-read-settings-requires
 read-settings-requires c κs =
@@ -48,7 +48,7 @@ returns-3 : tie.Need-returns-3
 returns-3 c =
     let e = sym (c .before .before .before .before .is-sized .ensures) ∙ not-false _ (c .before .before .before .if1 .left) in
     let l = sym (c .before .before .any-lacks .ensures) ∙ c .before .if2 .left in
-    ap Held (c .read-settings .ensures) ∙ sym (all-named _ e l)
+    both-told (ap Held (c .read-settings .ensures) ∙ sym (all-named _ e l))
 
 pub decode-spec : {M : Type 1} → statement M
 decode-spec =

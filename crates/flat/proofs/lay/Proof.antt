@@ -47,7 +47,8 @@ loop-again c =
     let e : length (o .fields) ≡ length (a .fields .now) = o .inv .1 in (
       omega arith,
       length-set (o .fields) _ _ ∙ e,
-      next-word (a .fields .now) (a .ws .now) (a .at) (o .i) (a .at + o .i) (o .i + 1) _ (o .fields) refl refl (omega arith) (omega arith) (o .inv .2) refl,
+      next-word (a .fields .now) (a .ws .now) (a .at) (o .i) (a .at + o .i) (o .i + 1) _ (o .fields) refl refl (omega arith)
+          (omega arith) (o .inv .2) refl,
     )
 
 same-length : tie.Need-same-length Inv-loop μ-loop

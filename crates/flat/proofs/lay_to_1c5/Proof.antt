@@ -63,15 +63,19 @@ returns c =
     let w0 : List ℕ = blendingWords (a .framebuffer .blending) in
     let to175 = blending .lay .last .0 in
     let front = take 160 old in
-    let at175 = first w0 old (blending-made .blending-words .result) to175 160 175 (blending .lay .ensures) (blending-made .blending-words .ensures) refl in
+    let m0 = blending-made .blending-words in
+    let at175 = first w0 old (m0 .result) to175 160 175 (blending .lay .ensures) (m0 .ensures) refl in
     let w1 : List ℕ = testsWords (a .framebuffer .tests) in
     let to193 = tests .lay2 .last .0 in
-    let at193 = more front w0 w1 to175 (tests-made .tests-words .result) to193 175 193 at175 (tests .lay2 .ensures) (tests-made .tests-words .ensures) refl in
+    let m1 = tests-made .tests-words in
+    let at193 = more front w0 w1 to175 (m1 .result) to193 175 193 at175 (tests .lay2 .ensures) (m1 .ensures) refl in
     let w2 : List ℕ = buffersWords (a .framebuffer .buffers) in
     let to202 = buffers .lay3 .last .0 in
-    let at202 = more front (w0 ++ w1) w2 to193 (buffers-made .buffers-words .result) to202 193 202 at193 (buffers .lay3 .ensures) (buffers-made .buffers-words .ensures) refl in
+    let m2 = buffers-made .buffers-words in
+    let at202 = more front (w0 ++ w1) w2 to193 (m2 .result) to202 193 202 at193 (buffers .lay3 .ensures) (m2 .ensures) refl in
     let w3 : List ℕ = lightPortWords (a .port) in
-    more front ((w0 ++ w1) ++ w2) w3 to202 (port-made .light-port-words .result) (port .lay4 .last .0) 202 204 at202 (port .lay4 .ensures) (port-made .light-port-words .ensures) refl
+    let m3 = port-made .light-port-words in
+    more front ((w0 ++ w1) ++ w2) w3 to202 (m3 .result) (port .lay4 .last .0) 202 204 at202 (port .lay4 .ensures) (m3 .ensures) refl
 
 pub lay-to-1c5-spec : {M : Type 1} → statement M
 lay-to-1c5-spec =

@@ -57,7 +57,8 @@ returns c =
     let to156 = in5 .lay-stage2 .last .0 in
     let at156 = more front (w0 ++ w1) w2 to136 w2 to156 136 156 at136 (in5 .lay-stage2 .ensures) refl refl in
     let w3 : List ℕ = colourWords (a .buffer .«buffer_colour») in
-    more front ((w0 ++ w1) ++ w2) w3 to156 (colour-made .colour-words .result) (colour .lay2 .last .0) 156 160 at156 (colour .lay2 .ensures) (colour-made .colour-words .ensures) refl
+    let made = colour-made .colour-words in
+    more front ((w0 ++ w1) ++ w2) w3 to156 (made .result) (colour .lay2 .last .0) 156 160 at156 (colour .lay2 .ensures) (made .ensures) refl
 
 pub lay-to-fd-spec : {M : Type 1} → statement M
 lay-to-fd-spec =

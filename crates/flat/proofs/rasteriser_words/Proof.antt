@@ -15,7 +15,12 @@ returns : tie.Need-returns
 returns c =
     let xy = c .before .before .before .before .before .args .r .viewport .xy in
     let told = c .before .before .before .struct-told .given in
-    rw (c .before .before .twos-of .ensures, c .twos-of2 .ensures, toZ-ofZ w32 (xy .x) (record { sfits = told .0 .1 }), toZ-ofZ w32 (xy .y) (record { sfits = told .1 .0 .1 }))
+    rw (
+      c .before .before .twos-of .ensures,
+      c .twos-of2 .ensures,
+      toZ-ofZ w32 (xy .x) (record { sfits = told .0 .1 }),
+      toZ-ofZ w32 (xy .y) (record { sfits = told .1 .0 .1 }),
+    )
 
 pub rasteriser-words-spec : {M : Type 1} → statement M
 rasteriser-words-spec = tie.close (tie.spec twos-of-requires twos-of-requires-2 returns)

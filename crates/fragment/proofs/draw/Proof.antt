@@ -4,6 +4,7 @@ use Rattle.registers.specs.State.{st}
 use Rattle.registers.proofs.Sizes.{lengths}
 use Rattle.decode.proofs.Cases.{decodable-sized, decodable-held, else-refused}
 use Rattle.fragment.specs.Drawn.{drawnFrom}
+use Rattle.fragment.proofs.Cases.{both-told}
 use borrow.Author.Needs.{needs}
 use Rattle.fragment.proofs.draw.Statement.{statement}
 use Rattle.fragment.proofs.draw.Tie as tie
@@ -24,13 +25,13 @@ returns : tie.Need-returns
 unfolding drawnFrom
 returns c =
     let e = sym (c .before .before .is-decodable .ensures) ∙ c .before .if1 .taken in
-    rw (decodable-held _ e, c .draw-with .ensures)
+    both-told (rw (decodable-held _ e, c .draw-with .ensures))
 
 returns-2 : tie.Need-returns-2
 unfolding drawnFrom
 returns-2 c =
     let e = sym (c .before .before .is-decodable .ensures) ∙ c .before .if1 .left in
-    rw (else-refused _ e, c .refusal-of .ensures)
+    both-told (rw (else-refused _ e, c .refusal-of .ensures))
 
 pub draw-spec : {M : Type 1} → statement M
 draw-spec =

@@ -46,7 +46,16 @@ colour-of-requires-7 : tie.Need-colour-of-requires-7
 colour-of-requires-7 c κs = search needs
 
 returns : tie.Need-returns
-returns c = rw (c .before .before .before .before .before .before .before .before .before .before .before .before .colour-of .ensures, c .before .before .before .before .before .before .before .before .before .before .colour-of2 .ensures, c .before .before .before .before .before .before .before .before .colour-of3 .ensures, c .before .before .before .before .before .before .colour-of4 .ensures, c .before .before .before .before .colour-of5 .ensures, c .before .before .colour-of6 .ensures, c .colour-of7 .ensures)
+returns c =
+    rw (
+      c .before .before .before .before .before .before .before .before .before .before .before .before .colour-of .ensures,
+      c .before .before .before .before .before .before .before .before .before .before .colour-of2 .ensures,
+      c .before .before .before .before .before .before .before .before .colour-of3 .ensures,
+      c .before .before .before .before .before .before .colour-of4 .ensures,
+      c .before .before .before .before .colour-of5 .ensures,
+      c .before .before .colour-of6 .ensures,
+      c .colour-of7 .ensures,
+    )
 
 pub given-of-spec : {M : Type 1} → statement M
 given-of-spec =

@@ -3,7 +3,8 @@ use Rattle.combiner.proofs.Codes.{beyond}
 use mathlib.Core.Path.{_∙_}
 use Rattle.combiner.specs.Modes.{interpolated, multipliedAdded, addedMultiplied, combined}
 use Rattle.combiner.specs.Operands.{rgbOperand}
-use Rattle.combiner.specs.Words.{unpacked, rgbIn, dotIn}
+use Rattle.settings.specs.Colours.{colourOf}
+use Rattle.combiner.specs.Words.{rgbIn, dotIn}
 use Rattle.combiner.proofs.Mixed.{third, last-mode}
 use borrow.Author.Needs.{needs}
 use Rattle.combiner.proofs.mix.mix_rgb.Statement.{statement}
@@ -84,7 +85,7 @@ returns-9 c = rw (c .before .before .match .keys9) (c .multiply-add-rgb .ensures
 returns-10 : tie.Need-returns-10
 returns-10 c =
     let a = c .before .before .before .args in
-    let z = rgbOperand (a .code) (unpacked (a .source)) in
+    let z = rgbOperand (a .code) (colourOf (a .source)) in
     c .add-multiply-rgb .ensures ∙ third addedMultiplied (c .before .rgb-operand3 .ensures) ∙
     last-mode (a .mode) (rgbIn (a .x)) (rgbIn (a .y)) z (dotIn (a .x) (a .y)) (beyond 9 _ (c .before .before .match .rest))
 

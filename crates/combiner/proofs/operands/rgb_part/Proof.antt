@@ -1,7 +1,7 @@
 -- As the calls ensure. Assumes nothing.
 use mathlib.Core.Path.{_∙_}
 use borrow.Author.Tests.{ne-eqb}
-use Rattle.combiner.specs.Words.{unpacked}
+use Rattle.settings.specs.Colours.{colourOf}
 use borrow.Author.Needs.{needs}
 use Rattle.combiner.proofs.operands.rgb_part.Statement.{statement}
 use Rattle.combiner.proofs.operands.rgb_part.Tie as tie
@@ -13,7 +13,7 @@ grey-requires : tie.Need-grey-requires
 grey-requires c κs = search needs
 
 returns : tie.Need-returns
-unfolding unpacked
+unfolding colourOf
 returns c = rw (c .if1 .taken)
 
 returns-2 : tie.Need-returns-2

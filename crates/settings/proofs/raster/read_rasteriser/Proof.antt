@@ -19,7 +19,13 @@ read-scissor-requires : tie.Need-read-scissor-requires
 read-scissor-requires c κs = search needs
 
 returns : tie.Need-returns
-returns c = rw (c .read-scissor .ensures, c .before .read-depthmap .ensures, c .before .before .read-clip .ensures, c .before .before .before .read-viewport .ensures)
+returns c =
+    rw (
+      c .read-scissor .ensures,
+      c .before .read-depthmap .ensures,
+      c .before .before .read-clip .ensures,
+      c .before .before .before .read-viewport .ensures,
+    )
 
 pub read-rasteriser-spec : {M : Type 1} → statement M
 read-rasteriser-spec =

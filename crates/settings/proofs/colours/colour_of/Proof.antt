@@ -1,9 +1,9 @@
 -- By the definition. Assumes nothing.
-use Rattle.combiner.specs.Words.{unpacked}
+use Rattle.settings.specs.Colours.{colourOf}
 use mathlib.Core.Path.{refl}
 use borrow.Author.Needs.{needs}
-use Rattle.combiner.proofs.words.colour_of.Statement.{statement}
-use Rattle.combiner.proofs.words.colour_of.Tie as tie
+use Rattle.settings.proofs.colours.colour_of.Statement.{statement}
+use Rattle.settings.proofs.colours.colour_of.Tie as tie
 
 cast-t3 : tie.Need-cast-t3
 cast-t3 c = search needs
@@ -18,7 +18,7 @@ cast-t12 : tie.Need-cast-t12
 cast-t12 c = search needs
 
 returns : tie.Need-returns
-unfolding unpacked
+unfolding colourOf
 returns c = refl
 
 pub colour-of-spec : {M : Type 1} → statement M

@@ -1,9 +1,10 @@
 -- Channel by channel. Assumes nothing.
-use Rattle.combiner.proofs.Parts.{packed-back}
+use mathlib.Core.Path.{refl}
 use native.Mathlib.Omega.{arith}
+use Rattle.settings.proofs.Inverse.{inverse}
 use borrow.Author.Needs.{needs}
-use Rattle.combiner.proofs.words.word_of.Statement.{statement}
-use Rattle.combiner.proofs.words.word_of.Tie as tie
+use Rattle.settings.proofs.colours.word_of.Statement.{statement}
+use Rattle.settings.proofs.colours.word_of.Tie as tie
 
 cast-result : tie.Need-cast-result
 cast-result c = search needs
@@ -36,7 +37,8 @@ add-result-3 : tie.Need-add-result-3
 add-result-3 c = search needs
 
 returns : tie.Need-returns
-returns c = packed-back _ (record { red = omega arith; green = omega arith; blue = omega arith; alpha = omega arith })
+returns c =
+    (refl, inverse .0 _ (record { red = omega arith; green = omega arith; blue = omega arith; alpha = omega arith }))
 
 pub word-of-spec : {M : Type 1} → statement M
 word-of-spec =
