@@ -31,8 +31,8 @@ fn last_id(id: u32, count: u32, step: u32) -> u32
     if step == 0 { id } else { id + count }
 }
 
-// No write to an id of first..last under `mask` can be at fault: the range ends below 300h and meets neither a jump register nor, but for mask
-// Fh, a port's data.
+// No write to an id of first..last under `mask` can be at fault: the range ends below 300h and meets neither a jump register nor, but for
+// mask Fh, a port's data.
 fn is_clear(first: u32, last: u32, mask: u32) -> bool
     ensures { λ r. ⌜ r ≡ clear first last mask ⌝ }
 {

@@ -73,7 +73,8 @@ returns-2 c =
     let up = at-upload-fog .upload-fog .ensures in
     let first = at-put-fog .put-fog .ensures in
     rw (up .0, up .1, first .0, first .1, h .2)
-    (sym (fog-command (a .list .now) (a .at) one (a .cells .now) (a .fog .now) (a .light .now) to (omega (arith, at-start .pre .0 .0 .0))))
+    (sym (fog-command (a .list .now) (a .at) one (a .cells .now) (a .fog .now) (a .light .now) to
+    (omega (arith, at-start .pre .0 .0 .0))))
 
 mul-put-light : tie.Need-mul-put-light
 mul-put-light c = search needs
@@ -111,7 +112,8 @@ returns-3 c =
     let up = at-upload-light .upload-light .ensures in
     let first = at-put-light .put-light .ensures in
     rw (up .0, up .1, first .0, first .1, h .2)
-    (sym (light-command (a .list .now) (a .at) one (a .cells .now) (a .fog .now) (a .light .now) to (omega (arith, at-start .pre .0 .0 .0))))
+    (sym (light-command (a .list .now) (a .at) one (a .cells .now) (a .fog .now) (a .light .now) to
+    (omega (arith, at-start .pre .0 .0 .0))))
 
 apply-same-requires : tie.Need-apply-same-requires
 apply-same-requires c κs =

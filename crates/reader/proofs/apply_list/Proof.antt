@@ -1,4 +1,5 @@
--- The invariant: the commands that are left lead from here to the state that the whole list leads to, and each has its words. Assumes nothing.
+-- The invariant: the commands that are left lead from here to the state that the whole list leads to, and each has its words.
+-- Assumes nothing.
 use mathlib.Core.Path.{_≡_, refl, sym, _∙_}
 use mathlib.Core.Bool.{true}
 use Prim.Native.Nat.{_-_, _≤_}

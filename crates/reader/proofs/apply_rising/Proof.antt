@@ -1,4 +1,5 @@
--- The invariant: what is left of the command leads from here to the state that all of it leads to, and its next value stands at j. Assumes nothing.
+-- The invariant: what is left of the command leads from here to the state that all of it leads to, and its next value stands at j.
+-- Assumes nothing.
 use mathlib.Core.Path.{_≡_, sym, _∙_}
 use Prim.Native.Nat.{_+_, _-_, _≤_, _<_}
 use native.Mathlib.Omega.{arith}

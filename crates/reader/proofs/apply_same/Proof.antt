@@ -1,4 +1,5 @@
--- The invariant: with the value in its cell, what is left of the command leads from here to the state that all of it leads to. Assumes nothing.
+-- The invariant: with the value in its cell, what is left of the command leads from here to the state that all of it leads to.
+-- Assumes nothing.
 use mathlib.Core.Path.{_≡_, sym, ap, _∙_}
 use mathlib.Core.List.{List}
 use Prim.Native.Nat.{ℕ, _+_, _-_, _≤_, _<_}
@@ -105,7 +106,8 @@ loop-holds c =
       omega arith,
       omega arith,
       omega arith,
-      (λ fog light. rw (k, c .merged .ensures, at-bits-held .bits-held .ensures, at-spread-mask .spread-mask .ensures, h .0, h .1, h .2) (sym (f fog light))),
+      (λ fog light. rw (k, c .merged .ensures, at-bits-held .bits-held .ensures, at-spread-mask .spread-mask .ensures, h .0, h .1, h .2)
+          (sym (f fog light))),
     )
 
 mul-merged-3 : tie.Need-mul-merged-3 Inv-loop μ-loop
@@ -175,7 +177,9 @@ returns-2 c =
     let o = at-loop .loop in
     let l = at-start .args .list .now in
     let at = at-start .args .at in
-    λ fog light. rw (at-parts .parts .ensures .0) (sym (run-applied l at _ (o .left) (o .j - (at + 1)) (idOf (headerAt l at)) (c .loop-test .left)) ∙ o .inv .3 fog light)
+    let i = idOf (headerAt l at) in
+    λ fog light. rw (at-parts .parts .ensures .0)
+    (sym (run-applied l at _ (o .left) (o .j - (at + 1)) i (c .loop-test .left)) ∙ o .inv .3 fog light)
 
 pub apply-same-spec : {M : Type 1} → statement M
 apply-same-spec =

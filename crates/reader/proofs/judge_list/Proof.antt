@@ -31,7 +31,7 @@ abbrev μ-commands : tie.MeasureT-commands
 μ-commands list at₀ n₀ at n = length list - at
 
 known : (c : tie.After-head Inv-loop μ-loop Inv-commands μ-commands)
-    → Whole (c .before .before .before .before .before .before .args .list .now) (c .before .before .before .before .commands .at) (c .head .given .0 .0)
+    → let o = c .before .before .before .before in Whole (o .before .before .args .list .now) (o .commands .at) (c .head .given .0 .0)
 known c = whole-of _ _ _ (sym (c .before .before .head-at .ensures .0) ∙ c .head .given .1)
 
 commands-holds : tie.Need-commands-holds Inv-loop μ-loop Inv-commands μ-commands
