@@ -193,11 +193,11 @@ fn apply_list(cells: &mut [u32], fog: &mut [u32], light: &mut [u32], list: &[u32
 {
     let slots = registers::held::slot_table();
     let held = registers::held::held_table();
-    let mut at: usize = 0;
+    let mut at = 0;
     while at < list.len() {
-        let h = words::parts(list[at + 1]);
+        let taken = words::words_taken(words::parts(list[at + 1]));
         apply_at(cells, fog, light, &slots, &held, list, at);
-        at += words::words_taken(h);
+        at += taken;
     }
 }
 

@@ -2,7 +2,7 @@
 -- Assumes nothing.
 use mathlib.Core.Path.{_≡_, refl, sym, _∙_}
 use mathlib.Core.Bool.{true}
-use Prim.Native.Nat.{_-_, _≤_}
+use Prim.Native.Nat.{_-_}
 use native.Mathlib.Omega.{arith}
 use borrow.Author.Needs.{needs}
 use lib.ListN.{length}
@@ -16,7 +16,7 @@ use Rattle.reader.proofs.apply_list.Tie as tie
 
 abbrev Inv-loop : tie.InvT-loop
 Inv-loop cells₀ fog₀ light₀ list slots held at₀ cells fog light at =
-    Lengths cells fog light × (at ≤ length list) × (full list (commands list at) ≡ true)
+    Lengths cells fog light × (full list (commands list at) ≡ true)
     × (applyAll (st cells fog light) (join list (commands list at)) ≡ applyAll (st cells₀ fog₀ light₀) (join list (commands list 0)))
 
 abbrev μ-loop : tie.MeasureT-loop
@@ -31,7 +31,7 @@ held-table-requires c κs = search needs
 loop-holds : tie.Need-loop-holds Inv-loop μ-loop
 loop-holds c =
     let at-start = c .before .before .before .before .before .before in
-    (at-start .pre .0, search needs, sym (formed-of (at-start .args .list .now)) ∙ at-start .pre .1, refl)
+    (at-start .pre .0, sym (formed-of (at-start .args .list .now)) ∙ at-start .pre .1, refl)
 
 add-parts : tie.Need-add-parts Inv-loop μ-loop
 add-parts c = search needs
@@ -45,24 +45,24 @@ shared-slice-read-parts c =
     let at-loop = at-loop-test .before in
     let at-start = at-loop .before .before .before .before .before .before .before in
     let o = at-loop .loop in
-    omega (arith, full-next (at-start .args .list .now) (o .at) (at-loop-test .loop-test .taken) (o .inv .2) .0)
+    omega (arith, full-next (at-start .args .list .now) (o .at) (at-loop-test .loop-test .taken) (o .inv .1) .0)
 
 parts-requires : tie.Need-parts-requires Inv-loop μ-loop
 parts-requires c κs = search needs
 
+words-taken-requires : tie.Need-words-taken-requires Inv-loop μ-loop
+words-taken-requires c κs = search needs
+
 apply-at-requires : tie.Need-apply-at-requires Inv-loop μ-loop
 apply-at-requires c κs =
-    let at-loop-test = c .before .before .before .before .before .before .before in
+    let at-loop-test = c .before .before .before .before .before .before .before .before in
     let at-loop = at-loop-test .before in
     let at-held-table = at-loop .before in
     let at-slot-table = at-held-table .before in
     let at-start = at-slot-table .before .before .before .before .before in
     let o = at-loop .loop in
-    let n = full-next (at-start .args .list .now) (o .at) (at-loop-test .loop-test .taken) (o .inv .2) in
+    let n = full-next (at-start .args .list .now) (o .at) (at-loop-test .loop-test .taken) (o .inv .1) in
     ((o .inv .0, (at-slot-table .slot-table .ensures, at-held-table .held-table .ensures)), n .0)
-
-words-taken-requires : tie.Need-words-taken-requires Inv-loop μ-loop
-words-taken-requires c κs = search needs
 
 add-at : tie.Need-add-at Inv-loop μ-loop
 add-at c = search needs
@@ -72,24 +72,24 @@ loop-less c = search needs
 
 loop-again : tie.Need-loop-again Inv-loop μ-loop
 loop-again c =
-    let at-apply-at = c .before .before .before .before .before .before .before in
-    let at-parts = at-apply-at .before .before .before .before .before .before in
+    let at-apply-at = c .before .before .before .before .before .before in
+    let at-words-taken = at-apply-at .before .before .before .before .before .before in
+    let at-parts = at-words-taken .before in
     let at-loop-test = at-parts .before .before in
     let at-loop = at-loop-test .before in
     let at-start = at-loop .before .before .before .before .before .before .before in
     let l = at-start .args .list .now in
     let o = at-loop .loop in
     let t = at-loop-test .loop-test .taken in
-    let n = full-next l (o .at) t (o .inv .2) in
+    let n = full-next l (o .at) t (o .inv .1) in
     let p = at-apply-at .apply-at in
     let k = p .kept in
-    let w = c .words-taken .ensures in
+    let w = at-words-taken .words-taken .ensures in
     let e = at-parts .parts .ensures .2 in
     let j = join-applies l (o .at) (st (o .cells) (o .fog) (o .light)) t in (
       (omega (arith, k .0), omega (arith, k .1 .0), omega (arith, k .1 .1 .0)),
-      rw (w, e) (n .0),
       rw (w, e) (n .1),
-      rw (w, e, p .ensures) (sym j ∙ o .inv .3),
+      rw (w, e, p .ensures) (sym j ∙ o .inv .2),
     )
 
 same-length : tie.Need-same-length Inv-loop μ-loop
@@ -107,7 +107,7 @@ returns c =
     let at-start = at-loop .before .before .before .before .before .before .before in
     let l = at-start .args .list .now in
     let o = at-loop .loop in
-    rw (expansion-of l) (sym (join-applied l (o .at) (st (o .cells) (o .fog) (o .light)) (c .loop-test .left)) ∙ o .inv .3)
+    rw (expansion-of l) (sym (join-applied l (o .at) (st (o .cells) (o .fog) (o .light)) (c .loop-test .left)) ∙ o .inv .2)
 
 pub apply-list-spec : {M : Type 1} → statement M
 apply-list-spec =
@@ -122,8 +122,8 @@ apply-list-spec =
     mul-parts
     shared-slice-read-parts
     parts-requires
-    apply-at-requires
     words-taken-requires
+    apply-at-requires
     add-at
     loop-less
     loop-again
