@@ -1,4 +1,5 @@
--- The tie rule: of the cuts that take the least words, the sizes are the one with the larger command at the first difference. Assumes nothing.
+-- The tie rule: of the cuts that take the least words, the sizes are the one with the larger command at the first difference.
+-- Assumes nothing.
 use mathlib.Core.Path.{_≡_, refl, sym, ap}
 use mathlib.Core.List.{List, [], _∷_}
 use mathlib.Core.Logic.{_⊎_, inl, inr}

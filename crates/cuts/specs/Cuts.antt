@@ -14,7 +14,8 @@ pub record Spans {A : Type 0} (span : List A → ℕ) : Type 0 where
   pub fits : (l : List A) → span l ≤ length l
   pub tail : (a : A) (l : List A) → span (a ∷ l) ≤ suc (span l)
 
--- the words of a command of k writes: the first parameter, the header, k - 1 extra parameters, and one padding word if the words so far are odd in number
+-- the words of a command of k writes: the first parameter, the header, k - 1 extra parameters, and one padding word if the words so far
+-- are odd in number
 abbrev pub words : ℕ → ℕ
 words k = k + 1 + (k + 1) % 2
 
@@ -28,7 +29,8 @@ abbrev pub Cut : {A : Type 0} → (List A → ℕ) → List A → List ℕ → T
 Cut span l [] = l ≡ []
 Cut span l (k ∷ ks) = (1 ≤ k) × (k ≤ span l) × Cut span (drop k l) ks
 
--- THE TIE RULE: the first command carries the most writes, then the second, and so on; at the first difference the left cut has the larger command
+-- THE TIE RULE: the first command carries the most writes, then the second, and so on; at the first difference the left cut has the
+-- larger command
 abbrev pub Most : List ℕ → List ℕ → Type 0
 Most [] js = js ≡ []
 Most (k ∷ ks) [] = ⊥
@@ -38,8 +40,8 @@ Most (k ∷ ks) (j ∷ js) = (j < k) ⊎ ((j ≡ k) × Most ks js)
 abbrev pub after : List ℕ → ℕ → ℕ
 after t k = words k + getD t (k - 1) 0
 
--- the size of the first command: n, the most that it can carry, or one fewer where that takes fewer words; never none, since a command of no
--- write would take the words of one (law `size-lone`)
+-- the size of the first command: n, the most that it can carry, or one fewer where that takes fewer words; never none, since a command of
+-- no write would take the words of one (law `size-lone`)
 abbrev pub size : ℕ → List ℕ → ℕ
 size n t = pick (ltb (after t (n - 1)) (after t n)) (n - 1) n
 

@@ -24,7 +24,8 @@ use Rattle.runs.proofs.Writes.{writes-length, writes-at, values-from}
 use Rattle.laying.specs.Laying.{stepAt, afterShort}
 
 -- a copy of more words over a copy of fewer
-pub copy-more : (old s : List ℕ) (at j n : ℕ) → at + n ≤ length old → j ≤ length s → j ≤ n → paste (paste old at s j) at s n ≡ paste old at s n
+pub copy-more : (old s : List ℕ) (at j n : ℕ) → at + n ≤ length old → j ≤ length s → j ≤ n
+    → paste (paste old at s j) at s n ≡ paste old at s n
 copy-more old s at j n h q r =
     let front : take at (paste old at s j) ≡ take at old =
     ap (take at) (append-assoc (take at old) (take j s) (drop (at + j) old))
@@ -95,9 +96,20 @@ module _ (is ms vs : List ℕ) (G : PackableRun is ms vs) (i k : ℕ) (F : OneCo
       → set (set old at (getD vs i 0)) (at + 1) h ≡ paste old at (command k (drop i ws)) 2
   two-words old at h r e =
       let C = command k (drop i ws) in
-      let one = next-word old C at 0 at 1 (getD vs i 0) old (omega arith) (omega arith) (omega arith) (omega (arith, F .long)) (paste-zero old at C) word-first in
-      next-word old C at 1 (at + 1) 2 h (set old at (getD vs i 0)) (omega arith) (omega arith) (omega (arith, F .low)) (omega (arith, F .long)) one
+      let v = getD vs i 0 in
+      let n : length C ≡ words k = F .long in
+      let one = next-word old C at 0 at 1 v old (omega arith) (omega arith) (omega arith) (omega arith) (paste-zero old at C) word-first in
+      next-word old C at 1 (at + 1) 2 h (set old at v) (omega arith) (omega arith) (omega (arith, F .low)) (omega arith) one
       (e ∙ rw step-is word-header)
+
+  -- the second parameter after them
+  second-parameter : (old start : List ℕ) (at : ℕ) → 2 ≤ k → at + words k ≤ length old → start ≡ paste old at (command k (drop i ws)) 2
+      → set start (at + 2) (getD vs (i + 1) 0) ≡ paste old at (command k (drop i ws)) 3
+  second-parameter old start at h r e =
+      let C = command k (drop i ws) in
+      let n : length C ≡ words k = F .long in
+      next-word old C at 2 (at + 2) 3 (getD vs (i + 1) 0) start (omega arith) (omega arith) (omega arith) (omega arith) e
+      (word-extra 1 (omega arith) (omega arith))
 
   -- A SHORT ONE, from its first two words
   pub short-words : (old start : List ℕ) (at : ℕ) → k < 4 → at + words k ≤ length old → start ≡ paste old at (command k (drop i ws)) 2
@@ -109,12 +121,12 @@ module _ (is ms vs : List ℕ) (G : PackableRun is ms vs) (i k : ℕ) (F : OneCo
       go (suc zero) z = e
       go (suc (suc zero)) z =
           next-word old (command k (drop i ws)) at 3 (at + 3) 4 0 _ (omega arith) (omega arith) (omega arith) (omega (arith, F .long))
-          (next-word old (command k (drop i ws)) at 2 (at + 2) 3 (getD vs (i + 1) 0) start (omega arith) (omega arith) (omega arith) (omega (arith, F .long)) e (word-extra 1 (omega arith) (omega arith)))
+          (second-parameter old start at (omega arith) r e)
           (let p : k + 1 ≡ 3 = omega arith in rw p at (word-pad (omega arith)))
       go (suc (suc (suc zero))) z =
           let d : i + 3 - 1 ≡ i + 2 = omega arith in
           next-word old (command k (drop i ws)) at 3 (at + 3) 4 _ _ (omega arith) (omega arith) (omega arith) (omega (arith, F .long))
-          (next-word old (command k (drop i ws)) at 2 (at + 2) 3 (getD vs (i + 1) 0) start (omega arith) (omega arith) (omega arith) (omega (arith, F .long)) e (word-extra 1 (omega arith) (omega arith)))
+          (second-parameter old start at (omega arith) r e)
           (rw d (word-extra 2 (omega arith) (omega arith)))
       go (suc (suc (suc (suc n)))) z = absurd (omega arith)
 
@@ -131,7 +143,8 @@ pub laid-none : (ws : List Write) (old : List ℕ) → Laid ws old 0 0 old
 laid-none ws old = record { within = omega arith; stands = refl; rest = refl; fits = omega arith }
 
 -- one command more
-module _ (ws : List Write) (old : List ℕ) (i k at : ℕ) (new : List ℕ) (h : i < length ws) (e : k ≡ first span (drop i ws)) (D : Laid ws old i at new) where
+module _ (ws : List Write) (old : List ℕ) (i k at : ℕ) (new : List ℕ) (h : i < length ws) (e : k ≡ first span (drop i ws))
+    (D : Laid ws old i at new) where
   abbrev P : List ℕ
   P = packed ws
 

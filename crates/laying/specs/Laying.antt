@@ -9,8 +9,8 @@ use Rattle.numbers.specs.Pick.{pick}
 abbrev pub stepAt : List ℕ → ℕ → ℕ → ℕ
 stepAt is i k = pick (ltb k 2) 0 (pick (eqb (getD is (i + 1) 0) (getD is i 0)) 0 1)
 
--- the space with what follows the first two words of a command of k writes from i on, fewer than four: nothing for a lone write, else the second
--- parameter, and the third or the padding word
+-- the space with what follows the first two words of a command of k writes from i on, fewer than four: nothing for a lone write, else the
+-- second parameter, and the third or the padding word
 abbrev pub afterShort : List ℕ → ℕ → ℕ → List ℕ → ℕ → List ℕ
 afterShort vs i k space at =
     pick (ltb k 2) space (set (set space (at + 2) (getD vs (i + 1) 0)) (at + 3) (pick (eqb k 3) (getD vs (i + k - 1) 0) 0))

@@ -1,5 +1,5 @@
-// The planned commands laid out one after another, from the run's start. The contracts cite specs/Laying.antt, the sizes of crate planning and
-// the packed list of crate runs.
+// The planned commands laid out one after another, from the run's start. The contracts cite specs/Laying.antt, the sizes of crate planning
+// and the packed list of crate runs.
 ghost use mathlib.Core.Path.{_≡_};
 ghost use mathlib.Core.List.{_++_};
 ghost use Prim.Native.Nat.{_+_, _≤_, _<_};
@@ -78,7 +78,8 @@ fn put_command(
         ⌝ }
     ensures { λ _. ⌜
         now (space .exit)
-        ≡ paste (now (space .entry)) at (command k (drop i (writes (now (ids .entry)) (now (masks .entry)) (now (values .entry))))) (words k)
+        ≡ paste (now (space .entry)) at
+        (command k (drop i (writes (now (ids .entry)) (now (masks .entry)) (now (values .entry))))) (words k)
         ⌝ }
 {
     space[at] = values[i];
@@ -106,7 +107,8 @@ pub fn lay_out(ids: &[u32], masks: &[u32], values: &[u32], extra: &[u8], space: 
         ⌝ }
     ensures { λ _. ⌜
         now (space .exit)
-        ≡ packed (writes (now (ids .entry)) (now (masks .entry)) (now (values .entry))) ++ drop (length (packed (writes (now (ids .entry)) (now (masks .entry)) (now (values .entry))))) (now (space .entry))
+        ≡ packed (writes (now (ids .entry)) (now (masks .entry)) (now (values .entry)))
+        ++ drop (length (packed (writes (now (ids .entry)) (now (masks .entry)) (now (values .entry))))) (now (space .entry))
         ⌝ }
 {
     let mut i = 0;

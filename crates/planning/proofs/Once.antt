@@ -1,5 +1,6 @@
--- The promise of each function that another crate can call settles its calls: any two answers that it allows are equal, and so are the sizes then
--- in the room lent for them, for the writes of the run. What is left in `least`, and in `extra` past the run, is not promised. Assumes nothing.
+-- The promise of each function that another crate can call settles its calls: any two answers that it allows are equal, and so are the
+-- sizes then in the room lent for them, for the writes of the run. What is left in `least`, and in `extra` past the run, is not promised.
+-- Assumes nothing.
 use mathlib.Core.Path.{_≡_, refl, sym, _∙_}
 use mathlib.Core.List.{List, [], _∷_}
 use Prim.Native.Nat.{ℕ, zero, suc, _<_}

@@ -11,8 +11,8 @@ use Rattle.cuts.specs.Cuts.{size, after, least, first}
 use Rattle.runs.specs.Span.{span}
 use Rattle.planning.specs.declared.Choice.{Choice}
 
--- THE CODE'S CHOICE where a command can carry n writes, `last` are the words of what is left after them and `before` after n - 1 of them: one fewer
--- where n is even and what is left takes less than two words more with the last of them in it (law `ends-chose`)
+-- THE CODE'S CHOICE where a command can carry n writes, `last` are the words of what is left after them and `before` after n - 1 of them:
+-- one fewer where n is even and what is left takes less than two words more with the last of them in it (law `ends-chose`)
 abbrev pub sizeBy : ℕ → ℕ → ℕ → ℕ
 sizeBy n last before = pick (eqb (n % 2) 0 && ltb before (last + 2)) (n - 1) n
 
@@ -25,13 +25,17 @@ pub record Chose (n : ℕ) (t : List ℕ) (c : Choice) : Type 0 where
   pub size : c .size ≡ size n t
   pub words : c .words ≡ after t (c .size)
 
--- what the code holds of a run of writes from i on that one command could carry, were it not for the limit of 256, by the table t of the words of
--- what is left: those after it and after all of it but one write, and those from i on
+-- words of what is left, after one write more and before: they fall, by two at most
+abbrev pub Near : ℕ → ℕ → Type 0
+Near fewer more = (fewer ≤ more) × (more ≤ fewer + 2)
+
+-- what the code holds of a run of writes from i on that one command could carry, were it not for the limit of 256, by the table t of the
+-- words of what is left: those after it and after all of it but one write, and those from i on
 pub record Longest (t : List ℕ) (i run last before words : ℕ) : Type 0 where
   pub some : 1 ≤ run
   pub within : i + min 256 run < length t
   pub few : i + min 256 run ≤ 4096
-  pub near : 2 ≤ run → (getD t (i + min 256 run) 0 ≤ getD t (i + min 256 run - 1) 0) × (getD t (i + min 256 run - 1) 0 ≤ getD t (i + min 256 run) 0 + 2)
+  pub near : 2 ≤ run → Near (getD t (i + min 256 run) 0) (getD t (i + min 256 run - 1) 0)
   pub lasts : 2 ≤ run → run ≤ 256 → last ≡ getD t (i + run) 0
   pub befores : 2 ≤ run → run ≤ 256 → before ≡ getD t (i + run - 1) 0
   pub needed : run ≤ 256 → words ≡ wordsBy run (getD t (i + run) 0) (getD t (i + run - 1) 0)

@@ -56,8 +56,9 @@ fn linked(id: u32, next: u32, step: usize, alike: bool, rest: usize) -> usize
     1
 }
 
-// A RUN of writes is what one command could carry, were it not for the limit of 256. The plan holds what is left after it (`last`) and after all of
-// it but one write (`before`), in words; a run shorter than two is taken for one of two. Each is found without a branch that only chance decides.
+// A RUN of writes is what one command could carry, were it not for the limit of 256. The plan holds what is left after it (`last`) and
+// after all of it but one write (`before`), in words; a run shorter than two is taken for one of two. Each is found without a branch that
+// only chance decides.
 
 // An end of a run: as it was from the next write on where the run is of three or more, else anew.
 fn end_at(run: usize, was: usize, anew: usize) -> usize
@@ -80,7 +81,8 @@ fn words_by(run: usize, last: usize, before: usize) -> usize
     run + 1 + last
 }
 
-// The same of a run whose ends are known for three writes or more: one or two take two words more than `next`, what is left after the first of them.
+// The same of a run whose ends are known for three writes or more: one or two take two words more than `next`, what is left after the first
+// of them.
 fn words_at(run: usize, next: usize, last: usize, before: usize) -> usize
     requires { ⌜ (run ≤ 4096) × (next ≤ 8192) × (last ≤ 8192) × (before ≤ 8192) ⌝ }
     ensures { λ r. ⌜ r ≡ pick (ltb 2 run) (wordsBy run last before) (next + 2) ⌝ }
@@ -92,8 +94,8 @@ fn words_at(run: usize, next: usize, last: usize, before: usize) -> usize
     next + 2
 }
 
-// The first command's size where it can carry n writes: n, or one fewer where that takes fewer words, which an even n alone can do: an odd n has no
-// padding word to save.
+// The first command's size where it can carry n writes: n, or one fewer where that takes fewer words, which an even n alone can do: an odd
+// n has no padding word to save.
 fn size_by(n: usize, last: usize, before: usize) -> usize
     requires { ⌜ (1 ≤ n) × (last ≤ 65535) ⌝ }
     ensures { λ r. ⌜ r ≡ sizeBy n last before ⌝ }
@@ -127,7 +129,8 @@ fn choose(least: &[u16], i: usize, run: usize, last: usize, before: usize, words
     Choice { size, words }
 }
 
-// Plans a run, whatever its values: answers its least words, and puts one fewer than the size of the first command from each write on into `extra`.
+// Plans a run, whatever its values: answers its least words, and puts one fewer than the size of the first command from each write on into
+// `extra`.
 pub fn plan_run(ids: &[u32], masks: &[u32], least: &mut [u16], extra: &mut [u8]) -> usize
     requires { ⌜
         (length (now ids) ≡ length (now masks)) × (length (now ids) ≤ 4096) × (length (now ids) < length (now least))

@@ -14,7 +14,9 @@ use Rattle.numbers.proofs.Table.{at}
 by-mask : (x : ℕ) → x < 16 → bitAnd (x * 0x204081) 0x1010101 * 0xFF ≡ spread x
 by-mask x h =
     eqb-true _ _
-    (is-true _ (at (λ k _. eqb (bitAnd (k * 0x204081) 0x1010101 * 0xFF) (spread k)) (replicate 16 0) tt x (omega (arith, length-replicate {A = ℕ} 16 0))))
+    (is-true _
+    (at (λ k _. eqb (bitAnd (k * 0x204081) 0x1010101 * 0xFF) (spread k)) (replicate 16 0) tt x
+    (omega (arith, length-replicate {A = ℕ} 16 0))))
 
 -- a mask's higher bits aren't looked at
 low-2 : (m : ℕ) → m % 16 / 2 % 2 ≡ m / 2 % 2

@@ -17,7 +17,8 @@ unfolding filled
 filled-done es e l j zero z = refl
 filled-done es e l j (suc n) z = absurd (omega arith)
 
-pub filled-next : (es : List ℕ) (e : ℕ) (l : List ℕ) (j n : ℕ) → 0 < n → filled es e l j n ≡ filled (withEntry es e l j) (e + 1) l (j + 1) (n - 1)
+pub filled-next : (es : List ℕ) (e : ℕ) (l : List ℕ) (j n : ℕ) → 0 < n
+    → filled es e l j n ≡ filled (withEntry es e l j) (e + 1) l (j + 1) (n - 1)
 unfolding filled
 filled-next es e l j zero z = absurd (omega arith)
 filled-next es e l j (suc n) z = let d : suc n - 1 ≡ n = omega arith in rw d
@@ -79,8 +80,9 @@ module _ (size table : ℕ) where
       let r : suc n - 1 ≡ 0 = omega arith in
       let a : i + suc n ≡ i + 1 = omega arith in
       let d : j + suc n ≡ j + 1 = omega arith in
-      uploaded-next i es l j (suc n + m) (omega arith)
-      ∙ rw (s, a, d, filled-next es (table + i) l j (suc n) (omega arith), r, filled-done (withEntry es (table + i) l j) (table + i + 1) l (j + 1) 0 (omega arith))
+      let f = filled-next es (table + i) l j (suc n) (omega arith) in
+      let z = filled-done (withEntry es (table + i) l j) (table + i + 1) l (j + 1) 0 (omega arith) in
+      uploaded-next i es l j (suc n + m) (omega arith) ∙ rw (s, a, d, f, r, z)
 
   by-stretch : (n m i : ℕ) (es l : List ℕ) (j : ℕ) → i < size → i + n ≤ size → Stretch n m i es l j
   by-stretch zero m i es l j h b = no-stretch m i es l j h

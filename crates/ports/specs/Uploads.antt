@@ -1,4 +1,5 @@
--- Data writes to a port one after another, with the index kept apart. Not of the document: the reader's laws say that single data writes leave the same.
+-- Data writes to a port one after another, with the index kept apart. Not of the document: the reader's laws say that single data writes
+-- leave the same.
 use mathlib.Core.List.{List}
 use Prim.Native.Nat.{ℕ, zero, suc, _+_, _*_, _/_, _%_}
 use lib.Dec.{ltb}
@@ -40,4 +41,5 @@ abbrev pub lightCellsAfter : List ℕ → ℕ → List ℕ
 lightCellsAfter cells n = set cells 0x1C5 (risen 256 (getD cells 0x1C5 0) n)
 
 abbrev pub lightUploaded : List ℕ → List ℕ → List ℕ → ℕ → ℕ → List ℕ
-lightUploaded cells light l j n = pick (named (lightTable cells)) (uploaded 256 (lightTable cells * 256) (lightIndex cells) light l j n) light
+lightUploaded cells light l j n =
+    pick (named (lightTable cells)) (uploaded 256 (lightTable cells * 256) (lightIndex cells) light l j n) light

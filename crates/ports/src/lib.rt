@@ -1,5 +1,5 @@
-// What a write does to one word under its mask, and a data write or an upload to the two table ports. The contracts cite specs/Ports.antt and
-// specs/Uploads.antt.
+// What a write does to one word under its mask, and a data write or an upload to the two table ports. The contracts cite
+// specs/Ports.antt and specs/Uploads.antt.
 ghost use mathlib.Core.Path.{_≡_};
 ghost use Prim.Native.Nat.{_+_, _≤_, _<_, min};
 ghost use lib.ListN.{length};

@@ -32,6 +32,7 @@ module _ (s : State) (l : List ℕ) where
   list-refused e h n p v = let k = le-leb (length l) 65536 h in record { answer = rw (e, k, v); state = rw (e, k, v) }
 
   -- an accepted one leaves what its expansion leaves
-  pub list-accepted : sized s ≡ true → length l ≤ 65536 → (n : ℕ) → verdict l ≡ answered n → Reading s l (answered n) (applyAll s (expansion l))
+  pub list-accepted : sized s ≡ true → length l ≤ 65536 → (n : ℕ) → verdict l ≡ answered n
+      → Reading s l (answered n) (applyAll s (expansion l))
   unfolding readAnswer readState
   list-accepted e h n v = let k = le-leb (length l) 65536 h in record { answer = rw (e, k, v); state = rw (e, k, v) }

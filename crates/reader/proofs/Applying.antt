@@ -52,7 +52,8 @@ module _ (l : List ℕ) (at : ℕ) where
   pub join-applies : (s : State) → at < length l
       → applyAll s (join l (commands l at)) ≡ applyAll (applyAll s (expand l at)) (join l (commands l (at + wordsOf h)))
   join-applies s i =
-      rw (commands-step l at i, join-more l at (commands l (at + wordsOf h))) (apply-append s (expand l at) (join l (commands l (at + wordsOf h))))
+      let rest = commands l (at + wordsOf h) in
+      rw (commands-step l at i, join-more l at rest) (apply-append s (expand l at) (join l rest))
 
   -- of a list without a command that lacks words, the next has its words, and the rest is such a list too
   pub full-next : at < length l → full l (commands l at) ≡ true
@@ -77,7 +78,8 @@ module _ (l : List ℕ) (at : ℕ) where
   -- of a command to one id
   module _ (one : stepOf head ≡ 0) where
     pub same-first : (s : State)
-        → applyAll s (expand l at) ≡ applyAll (put s (idOf head) (spread (maskOf head)) (getD l at 0)) (run l at (countOf head) 1 (idOf head))
+        → applyAll s (expand l at)
+        ≡ applyAll (put s (idOf head) (spread (maskOf head)) (getD l at 0)) (run l at (countOf head) 1 (idOf head))
     same-first s = let d : idOf head + stepOf head ≡ idOf head = omega arith in rw d at (expand-first s)
 
     pub same-next : (s : State) (n k i j : ℕ) → 0 < n → 0 < k → j ≡ at + 1 + k

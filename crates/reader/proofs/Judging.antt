@@ -73,7 +73,8 @@ module _ (l : List ℕ) (at : ℕ) where
   clear-none : (b : Bool) → eqb (stepOf h) 0 ≡ b → clear (idOf h) (pick b (idOf h) (idOf h + countOf h)) (maskOf h) ≡ true
       → firstFault (expand l at) ≡ 0
   clear-none true b c =
-      same-none (countOf h + 1) 0 (idOf h) (eqb-true (stepOf h) 0 b) (clear-fault (idOf h) (idOf h) (idOf h) (maskOf h) c (omega arith) (omega arith))
+      let f = clear-fault (idOf h) (idOf h) (idOf h) (maskOf h) c (omega arith) (omega arith) in
+      same-none (countOf h + 1) 0 (idOf h) (eqb-true (stepOf h) 0 b) f
   clear-none false b c = rising-none (idOf h + countOf h) (countOf h + 1) 0 (idOf h) (idOf h) c (omega arith) (omega arith)
 
   by-clear : (b : Bool) → clear (idOf h) (lastId (idOf h) (countOf h) (stepOf h)) (maskOf h) ≡ b

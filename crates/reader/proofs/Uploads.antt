@@ -73,10 +73,20 @@ module _ (l : List ℕ) (at : ℕ) (one : stepOf (headerAt l at) ≡ 0) where
       let r : risen 128 y n ≡ risen 128 x (suc n) = omega arith in
       let z : 0 + x % 128 ≡ x % 128 = omega arith in
       let m : suc n - 1 ≡ n = omega arith in
+      let es = fogEntries cells fog (getD l j 0) in
+      let rest = fog-run n (k + 1) (j + 1) i (fogCells cells) es light f (fog-cells cells h) (omega arith) (omega arith) in
       same-next l at one (st cells fog light) (suc n) k i j (omega arith) p e
       ∙ rw (m, put-fog-data (st cells fog light) i (spread (maskOf (headerAt l at))) (getD l j 0) f)
-      (fog-run n (k + 1) (j + 1) i (fogCells cells) (fogEntries cells fog (getD l j 0)) light f (fog-cells cells h) (omega arith) (omega arith)
-      ∙ rw (getD-set-same cells 0xE6 y 0 h, set-set cells 0xE6 y, r, uploaded-next 128 0 (x % 128) fog l j (suc n) (omega arith), m, z, fog-index x (decLt (x % 128 + 1) 128)))
+      (rest
+      ∙ rw (
+        getD-set-same cells 0xE6 y 0 h,
+        set-set cells 0xE6 y,
+        r,
+        uploaded-next 128 0 (x % 128) fog l j (suc n) (omega arith),
+        m,
+        z,
+        fog-index x (decLt (x % 128 + 1) 128),
+      ))
 
   -- LIGHT, by whether the open table is named
   light-by : (b : Bool) (n k j i : ℕ) (cells fog light : List ℕ) → named (lightTable cells) ≡ b → lightData i ≡ true → 0x1C5 < length cells
@@ -96,9 +106,12 @@ module _ (l : List ℕ) (at : ℕ) (one : stepOf (headerAt l at) ≡ 0) where
       let q : y / 256 ≡ x / 256 = omega arith in
       let m : suc n - 1 ≡ n = omega arith in
       let v : named (lightTable (lightCells cells)) ≡ b = rw (getD-set-same cells 0x1C5 y 0 h, q) d in
+      let es = lightEntries cells light (getD l j 0) in
+      let rest = light-by b n (k + 1) (j + 1) i (lightCells cells) fog es v g (light-cells cells h) (omega arith) (omega arith) in
+      let table = x / 256 % 32 * 256 in
       same-next l at one (st cells fog light) (suc n) k i j (omega arith) p e
       ∙ rw (m, put-light-data (st cells fog light) i (spread (maskOf (headerAt l at))) (getD l j 0) (light-only i g) g)
-      (light-by b n (k + 1) (j + 1) i (lightCells cells) fog (lightEntries cells light (getD l j 0)) v g (light-cells cells h) (omega arith) (omega arith)
+      (rest
       ∙ rw (
         getD-set-same cells 0x1C5 y 0 h,
         set-set cells 0x1C5 y,
@@ -110,7 +123,7 @@ module _ (l : List ℕ) (at : ℕ) (one : stepOf (headerAt l at) ≡ 0) where
         light-index x (decLt (x % 256 + 1) 256),
       )
       (ap (λ (z : List ℕ). st (lightCellsAfter cells (suc n)) fog z)
-      (pick-inside b (λ es. uploaded 256 (x / 256 % 32 * 256) (y % 256) es l (j + 1) n) (withEntry light (x / 256 % 32 * 256 + x % 256) l j) light)))
+      (pick-inside b (λ es. uploaded 256 table (y % 256) es l (j + 1) n) (withEntry light (table + x % 256) l j) light)))
 
   pub light-run : (n k j i : ℕ) (cells fog light : List ℕ) → lightData i ≡ true → 0x1C5 < length cells → 0 < k → j ≡ at + 1 + k
       → applyAll (st cells fog light) (run l at n k i) ≡ st (lightCellsAfter cells n) fog (lightUploaded cells light l j n)
@@ -128,14 +141,17 @@ module _ (l : List ℕ) (at : ℕ) (one : stepOf (headerAt l at) ≡ 0) (cells f
       → applyAll (st cells fog light) (expand l at)
       ≡ st (fogCellsAfter (fogCells cells) (countOf h)) (fogUploaded (fogCells cells) (fogEntries cells fog v) l (at + 2) (countOf h)) light
   fog-command f b =
+      let es = fogEntries cells fog v in
       same-first l at one (st cells fog light)
       ∙ rw (put-fog-data (st cells fog light) (idOf h) (spread (maskOf h)) v f)
-      (fog-run l at one (countOf h) 1 (at + 2) (idOf h) (fogCells cells) (fogEntries cells fog v) light f (fog-cells cells b) (omega arith) (omega arith))
+      (fog-run l at one (countOf h) 1 (at + 2) (idOf h) (fogCells cells) es light f (fog-cells cells b) (omega arith) (omega arith))
 
   pub light-command : lightData (idOf h) ≡ true → 0x1C5 < length cells
       → applyAll (st cells fog light) (expand l at)
-      ≡ st (lightCellsAfter (lightCells cells) (countOf h)) fog (lightUploaded (lightCells cells) (lightEntries cells light v) l (at + 2) (countOf h))
+      ≡ st (lightCellsAfter (lightCells cells) (countOf h)) fog
+      (lightUploaded (lightCells cells) (lightEntries cells light v) l (at + 2) (countOf h))
   light-command g b =
+      let es = lightEntries cells light v in
       same-first l at one (st cells fog light)
       ∙ rw (put-light-data (st cells fog light) (idOf h) (spread (maskOf h)) v (light-only (idOf h) g) g)
-      (light-run l at one (countOf h) 1 (at + 2) (idOf h) (lightCells cells) fog (lightEntries cells light v) g (light-cells cells b) (omega arith) (omega arith))
+      (light-run l at one (countOf h) 1 (at + 2) (idOf h) (lightCells cells) fog es g (light-cells cells b) (omega arith) (omega arith))

@@ -1,4 +1,5 @@
--- When no write of a command can be at fault, by the first and the last of its ids. Not of the document: law `clear-fault` says what it is for.
+-- When no write of a command can be at fault, by the first and the last of its ids. Not of the document: law `clear-fault` says what it is
+-- for.
 use mathlib.Core.Bool.{Bool, _&&_, _||_}
 use Prim.Native.Nat.{ℕ, _+_}
 use lib.Dec.{leb, ltb, eqb}

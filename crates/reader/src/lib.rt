@@ -1,5 +1,5 @@
-// A list read into a state: judged whole, and then applied. The contracts cite specs/ListVerdict.antt and specs/Read.antt, and for the code's own
-// steps specs/Clear.antt and specs/ToOne.antt.
+// A list read into a state: judged whole, and then applied. The contracts cite specs/ListVerdict.antt and specs/Read.antt, and for the
+// code's own steps specs/Clear.antt and specs/ToOne.antt.
 ghost use mathlib.Core.Path.{_≡_};
 ghost use mathlib.Core.Bool.{true};
 ghost use mathlib.Core.List.{List};
@@ -8,8 +8,8 @@ ghost use lib.ListN.{length};
 ghost use Rattle.numbers.specs.Pick.{pick};
 ghost use Rattle.words.specs.Header.{stepOf, wordsOf};
 ghost use Rattle.words.specs.Commands.{headerAt, expand, expansion, wellFormed};
-ghost use Rattle.registers.specs.State.{st};
-ghost use Rattle.registers.specs.Tables.{heldTable, slotTable};
+ghost use Rattle.registers.specs.State.{st, Lengths};
+ghost use Rattle.registers.specs.Tables.{LookupTables};
 ghost use Rattle.registers.specs.Applied.{applyAll};
 ghost use Rattle.reader.specs.ToOne.{ToOne};
 ghost use Rattle.reader.specs.ListVerdict.{verdict};
@@ -31,8 +31,8 @@ fn last_id(id: u32, count: u32, step: u32) -> u32
     if step == 0 { id } else { id + count }
 }
 
-// No write to an id of first..last under `mask` can be at fault: the range ends below 300h and meets neither a jump register nor, but for mask
-// Fh, a port's data.
+// No write to an id of first..last under `mask` can be at fault: the range ends below 300h and meets neither a jump register nor, but for
+// mask Fh, a port's data.
 fn is_clear(first: u32, last: u32, mask: u32) -> bool
     ensures { λ r. ⌜ r ≡ clear first last mask ⌝ }
 {
@@ -63,11 +63,9 @@ pub fn judge_list(list: &[u32]) -> ListVerdict
         if list.len() <= at {
             break 'commands ListVerdict::Accepted(n);
         }
-        let Head::Taken(h) = words::head_at(list, at) else {
-            break 'commands ListVerdict::Refused(Refusal {
-                number: words::WORDS_MISSING,
-                place: at,
-            });
+        let head = words::head_at(list, at);
+        let Head::Taken(h) = head else {
+            break 'commands ListVerdict::Refused(words::refusal_in(head));
         };
         let mut id = h.id;
         let mut left = deciding(h.id, h.mask, h.count, h.step);
@@ -83,16 +81,8 @@ pub fn judge_list(list: &[u32]) -> ListVerdict
             left -= 1;
         }
         n += (h.count + 1) as usize;
-        at += (2 + h.count + (2 + h.count) % 2) as usize;
+        at += words::words_taken(h);
     }
-}
-
-// The words that the command with this header takes.
-fn words_taken(h: u32) -> usize
-    ensures { λ r. ⌜ (r ≡ wordsOf h) × (r < 300) ⌝ }
-{
-    let count = h / 0x100000 % 256;
-    (2 + count + (2 + count) % 2) as usize
 }
 
 // The command at `at` to rising ids, one write after another: the first value stands before the header, the others after it.
@@ -105,20 +95,17 @@ fn apply_rising(
     list: &[u32],
     at: usize,
 )
-    requires { ⌜
-        (length (now cells) ≡ 768) × (length (now fog) ≡ 128) × (length (now light) ≡ 6144) × (now slots ≡ slotTable)
-        × (now held ≡ heldTable)
-        ⌝ }
+    requires { ⌜ Lengths (now cells) (now fog) (now light) × LookupTables (now slots) (now held) ⌝ }
     requires { ⌜ (at + wordsOf (headerAt (now list) at) ≤ length (now list)) × (stepOf (headerAt (now list) at) ≡ 1) ⌝ }
     ensures { λ _. ⌜
         st (now (cells .exit)) (now (fog .exit)) (now (light .exit))
         ≡ applyAll (st (now (cells .entry)) (now (fog .entry)) (now (light .entry))) (expand (now (list .entry)) at)
         ⌝ }
 {
-    let h = list[at + 1];
-    let bytes = ports::spread_mask(h / 0x10000 % 16);
-    let mut id = h % 0x10000;
-    let mut left = h / 0x100000 % 256 + 1;
+    let h = words::parts(list[at + 1]);
+    let bytes = ports::spread_mask(h.mask);
+    let mut id = h.id;
+    let mut left = h.count + 1;
     let mut j = at;
     let mut next: usize = 2;
     while 0 < left {
@@ -133,8 +120,7 @@ fn apply_rising(
 // The command at `at` to one id that is no port's data: its bits are looked up once, and its values go into the cell one after another.
 fn apply_same(cells: &mut [u32], slots: &[u8; 256], held: &[u32; 132], list: &[u32], at: usize)
     requires { ⌜
-        (length (now cells) ≡ 768) × (now slots ≡ slotTable) × (now held ≡ heldTable)
-        × (at + wordsOf (headerAt (now list) at) ≤ length (now list))
+        (length (now cells) ≡ 768) × LookupTables (now slots) (now held) × (at + wordsOf (headerAt (now list) at) ≤ length (now list))
         ⌝ }
     requires { ⌜ ToOne (headerAt (now list) at) ⌝ }
     ensures { λ _. ⌜
@@ -142,16 +128,16 @@ fn apply_same(cells: &mut [u32], slots: &[u8; 256], held: &[u32; 132], list: &[u
         ≡ applyAll (st (now (cells .entry)) fog light) (expand (now (list .entry)) at))
         ⌝ }
 {
-    let h = list[at + 1];
-    let id = h % 0x10000;
+    let h = words::parts(list[at + 1]);
+    let id = h.id;
     let bits = registers::bits_held(slots, held, id);
     if bits == 0 {
         return;
     }
     let i = id as usize;
-    let written = bits & ports::spread_mask(h / 0x10000 % 16);
+    let written = bits & ports::spread_mask(h.mask);
     let mut cell = ports::merged(written, cells[i], list[at]);
-    let mut left = h / 0x100000 % 256;
+    let mut left = h.count;
     let mut j = at + 2;
     while 0 < left {
         cell = ports::merged(written, cell, list[j]);
@@ -171,30 +157,27 @@ fn apply_at(
     list: &[u32],
     at: usize,
 )
-    requires { ⌜
-        (length (now cells) ≡ 768) × (length (now fog) ≡ 128) × (length (now light) ≡ 6144) × (now slots ≡ slotTable)
-        × (now held ≡ heldTable)
-        ⌝ }
+    requires { ⌜ Lengths (now cells) (now fog) (now light) × LookupTables (now slots) (now held) ⌝ }
     requires { ⌜ at + wordsOf (headerAt (now list) at) ≤ length (now list) ⌝ }
     ensures { λ _. ⌜
         st (now (cells .exit)) (now (fog .exit)) (now (light .exit))
         ≡ applyAll (st (now (cells .entry)) (now (fog .entry)) (now (light .entry))) (expand (now (list .entry)) at)
         ⌝ }
 {
-    let h = list[at + 1];
-    let id = h % 0x10000;
-    if h / 0x80000000 % 2 != 0 {
+    let h = words::parts(list[at + 1]);
+    let id = h.id;
+    if h.step != 0 {
         apply_rising(cells, fog, light, slots, held, list, at);
         return;
     }
     if (0xE8 <= id) & (id <= 0xEF) {
         ports::put_fog(cells, fog, list[at]);
-        ports::upload_fog(cells, fog, list, at + 2, h / 0x100000 % 256);
+        ports::upload_fog(cells, fog, list, at + 2, h.count);
         return;
     }
     if (0x1C8 <= id) & (id <= 0x1CF) {
         ports::put_light(cells, light, list[at]);
-        ports::upload_light(cells, light, list, at + 2, h / 0x100000 % 256);
+        ports::upload_light(cells, light, list, at + 2, h.count);
         return;
     }
     apply_same(cells, slots, held, list, at);
@@ -202,7 +185,7 @@ fn apply_at(
 
 // A well-formed list's expansion, one masked write after another.
 fn apply_list(cells: &mut [u32], fog: &mut [u32], light: &mut [u32], list: &[u32])
-    requires { ⌜ (length (now cells) ≡ 768) × (length (now fog) ≡ 128) × (length (now light) ≡ 6144) × (wellFormed (now list) ≡ true) ⌝ }
+    requires { ⌜ Lengths (now cells) (now fog) (now light) × (wellFormed (now list) ≡ true) ⌝ }
     ensures { λ _. ⌜
         st (now (cells .exit)) (now (fog .exit)) (now (light .exit))
         ≡ applyAll (st (now (cells .entry)) (now (fog .entry)) (now (light .entry))) (expansion (now (list .entry)))
@@ -210,11 +193,11 @@ fn apply_list(cells: &mut [u32], fog: &mut [u32], light: &mut [u32], list: &[u32
 {
     let slots = registers::held::slot_table();
     let held = registers::held::held_table();
-    let mut at: usize = 0;
+    let mut at = 0;
     while at < list.len() {
-        let h = list[at + 1];
+        let taken = words::words_taken(words::parts(list[at + 1]));
         apply_at(cells, fog, light, &slots, &held, list, at);
-        at += words_taken(h);
+        at += taken;
     }
 }
 

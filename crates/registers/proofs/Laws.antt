@@ -87,7 +87,8 @@ module _ (cells : List ℕ) (i m v : ℕ) where
       → set (set cells i (merge e (getD cells i 0) v)) i (merge e (getD (set cells i (merge e (getD cells i 0) v)) i 0) v)
       ≡ set cells i (merge e (getD cells i 0) v)
   set-twice e h (yes l) =
-      rw (set-set cells i (merge e (getD cells i 0) v), getD-set-same cells i (merge e (getD cells i 0) v) 0 l, merge-twice e (getD cells i 0) v h)
+      let x = getD cells i 0 in
+      rw (set-set cells i (merge e x v), getD-set-same cells i (merge e x v) 0 l, merge-twice e x v h)
   set-twice e h (no l) =
       let o : length cells ≤ i = omega arith in
       rw (set-out cells i (merge e (getD cells i 0) v) o) (set-out cells i _ o)
@@ -104,8 +105,8 @@ module _ (cells : List ℕ) (i m v : ℕ) where
 
 pub apply-twice : (s : State) (w : Write) → fogData (w .id) ≡ false → lightData (w .id) ≡ false → apply (apply s w) w ≡ apply s w
 apply-twice s w f g =
-    rw (
-      beside-ports s (w .id) (spread (w .mask)) (w .value) f g,
-      beside-ports (st (cellsAfter (s .cells) (w .id) (spread (w .mask)) (w .value)) (s .fog) (s .light)) (w .id) (spread (w .mask)) (w .value) f g,
-      cells-twice (s .cells) (w .id) (w .mask) (w .value),
-    )
+    let i = w .id in
+    let e = spread (w .mask) in
+    let v = w .value in
+    let once = st (cellsAfter (s .cells) i e v) (s .fog) (s .light) in
+    rw (beside-ports s i e v f g, beside-ports once i e v f g, cells-twice (s .cells) i (w .mask) v)

@@ -1,4 +1,5 @@
--- The look-up's rule: a row whose id is the one looked for has its bits; an id without such a row holds none. One test, computed over the 768 ids.
+-- The look-up's rule: a row whose id is the one looked for has its bits; an id without such a row holds none. One test, computed over the
+-- 768 ids.
 -- Assumes nothing.
 use mathlib.Core.Path.{_≡_, refl, sym, _∙_}
 use mathlib.Core.Bool.{Bool, true, false, not, _&&_, false≢true}

@@ -6,9 +6,9 @@ use lib.Dec.{eqb}
 use lib.ListN.{length}
 use borrow.Author.Tests.{eqb-true}
 use Rattle.numbers.proofs.Tests.{and-true}
-use Rattle.registers.specs.State.{State, sized}
+use Rattle.registers.specs.State.{State, sized, Lengths}
 
-pub lengths : (s : State) → sized s ≡ true → (length (s .cells) ≡ 768) × (length (s .fog) ≡ 128) × (length (s .light) ≡ 6144)
+pub lengths : (s : State) → sized s ≡ true → Lengths (s .cells) (s .fog) (s .light)
 lengths s e =
     let c = eqb (length (s .cells)) 768 in
     let f = eqb (length (s .fog)) 128 in

@@ -1,11 +1,10 @@
 // What one write does to a state of three lent buffers. The contracts cite specs/Applied.antt and specs/Single.antt.
 ghost use mathlib.Core.Path.{_≡_};
 ghost use Prim.Native.Nat.{_%_, _<_};
-ghost use lib.ListN.{length};
 ghost use Rattle.words.specs.Writes.{writing};
-ghost use Rattle.registers.specs.State.{st, sized};
+ghost use Rattle.registers.specs.State.{st, sized, Lengths};
 ghost use Rattle.registers.specs.Held.{bitsOf};
-ghost use Rattle.registers.specs.Tables.{heldTable, slotTable};
+ghost use Rattle.registers.specs.Tables.{LookupTables};
 ghost use Rattle.registers.specs.Applied.{put};
 ghost use Rattle.registers.specs.Single.{told, writeAnswer, writeState};
 use words::Refusal;
@@ -27,7 +26,7 @@ fn low_byte(id: u32) -> usize
 
 // The bits that the register `id` holds, 0 where it isn't held: one row of the table can be its row.
 pub fn bits_held(slots: &[u8; 256], held: &[u32; 132], id: u32) -> u32
-    requires { ⌜ (now slots ≡ slotTable) × (now held ≡ heldTable) ⌝ }
+    requires { ⌜ LookupTables (now slots) (now held) ⌝ }
     ensures { λ r. ⌜ r ≡ bitsOf id ⌝ }
 {
     let slot = wide(slots[low_byte(id)]);
@@ -49,10 +48,7 @@ pub fn put_one(
     bytes: u32,
     value: u32,
 )
-    requires { ⌜
-        (length (now cells) ≡ 768) × (length (now fog) ≡ 128) × (length (now light) ≡ 6144) × (now slots ≡ slotTable)
-        × (now held ≡ heldTable)
-        ⌝ }
+    requires { ⌜ Lengths (now cells) (now fog) (now light) × LookupTables (now slots) (now held) ⌝ }
     ensures { λ _. ⌜
         st (now (cells .exit)) (now (fog .exit)) (now (light .exit))
         ≡ put (st (now (cells .entry)) (now (fog .entry)) (now (light .entry))) id bytes value

@@ -17,6 +17,11 @@ countOf h = h / 0x100000 % 256
 abbrev pub stepOf : ℕ → ℕ
 stepOf h = h / 0x80000000 % 2
 
--- the first parameter, the header, the extra parameters, and one padding word if the words so far are odd in number
+-- the words of a command with so many extra parameters: the first parameter, the header, the extra parameters, and one padding word if the
+-- words so far are odd in number
+abbrev pub wordsWith : ℕ → ℕ
+wordsWith count = 2 + count + (2 + count) % 2
+
+-- by its header
 abbrev pub wordsOf : ℕ → ℕ
-wordsOf h = 2 + countOf h + (2 + countOf h) % 2
+wordsOf h = wordsWith (countOf h)

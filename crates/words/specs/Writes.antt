@@ -1,5 +1,5 @@
--- A single write, and when it is allowed: said twice, as the document does, and law `allowed-fault` has the two agree. A mask above 15 can't stand
--- in a header; where it is given as a number, it is refused with 9 before these tests.
+-- A single write, and when it is allowed: said twice, as the document does, and law `allowed-fault` has the two agree. A mask above 15
+-- can't stand in a header; where it is given as a number, it is refused with 9 before these tests.
 use mathlib.Core.Bool.{Bool, not, _&&_, _||_}
 use Prim.Native.Nat.{ℕ}
 use lib.Dec.{leb, ltb, eqb}

@@ -1,6 +1,8 @@
-// A list of command words: a header taken apart, and what is wrong with a single write. The contracts cite specs/Taken.antt and specs/Writes.antt.
+// A list of command words: a header taken apart, and what is wrong with a single write.
+// The contracts cite specs/Header.antt, specs/Taken.antt and specs/Writes.antt.
 ghost use mathlib.Core.Path.{_≡_};
-ghost use Rattle.words.specs.Taken.{headOf};
+ghost use Rattle.words.specs.Header.{idOf, maskOf, countOf, stepOf, wordsWith};
+ghost use Rattle.words.specs.Taken.{headOf, told, headNumbers, refusalIn};
 ghost use Rattle.words.specs.Writes.{faultOf};
 
 // A refusal: its number, of the table "Numbers given back", and its place.
@@ -43,14 +45,36 @@ pub struct Header {
     pub step: u32,
 }
 
+// A header word taken apart.
+pub fn parts(h: u32) -> Header
+    ensures { λ r. ⌜ (r .id ≡ idOf h) × (r .mask ≡ maskOf h) × (r .count ≡ countOf h) × (r .step ≡ stepOf h) ⌝ }
+{
+    Header {
+        id: h % 0x10000,
+        mask: h / 0x10000 % 16,
+        count: h / 0x100000 % 256,
+        step: h / 0x80000000 % 2,
+    }
+}
+
+// The words that a command with this header takes, the padding word too.
+pub fn words_taken(h: Header) -> usize
+    ensures { λ r. ⌜ r ≡ wordsWith (h .count) ⌝ }
+{
+    let count = h.count as usize;
+    2 + count + (2 + count) % 2
+}
+
 pub enum Head {
     Taken(Header),
     Refused(Refusal),
 }
 
-// The header of the command whose first word stands at `at`, taken apart; or refused with 2 at `at` where the command's words aren't all there.
+// The header of the command whose first word stands at `at`, taken apart; or refused with 2 at `at` where the command's words aren't
+// all there.
 pub fn head_at(list: &[u32], at: usize) -> Head
-    ensures { λ r. ⌜ r ≡ headOf (now (list .entry)) at ⌝ }
+    ensures answer { λ r. ⌜ r ≡ headOf (now (list .entry)) at ⌝ }
+    ensures numbers { λ r. ⌜ told r ≡ headNumbers (now (list .entry)) at ⌝ }
 {
     if list.len() <= at {
         return Head::Refused(Refusal {
@@ -65,21 +89,27 @@ pub fn head_at(list: &[u32], at: usize) -> Head
             place: at,
         });
     }
-    let h = list[at + 1];
-    let count = h / 0x100000 % 256;
-    let need = 2 + count + (2 + count) % 2;
-    if left < need as usize {
+    let h = parts(list[at + 1]);
+    if left < words_taken(h) {
         return Head::Refused(Refusal {
             number: WORDS_MISSING,
             place: at,
         });
     }
-    Head::Taken(Header {
-        id: h % 0x10000,
-        mask: h / 0x10000 % 16,
-        count,
-        step: h / 0x80000000 % 2,
-    })
+    Head::Taken(h)
+}
+
+// The refusal that an answer of `head_at` holds; of number 0, which is none, at place 0 where the header was taken apart.
+pub fn refusal_in(head: Head) -> Refusal
+    ensures { λ r. ⌜ r ≡ refusalIn head ⌝ }
+{
+    match head {
+        Head::Taken(_) => Refusal {
+            number: 0,
+            place: 0,
+        },
+        Head::Refused(r) => r,
+    }
 }
 
 // The number of the fault of a write to `id` under `mask`, 0 where it is allowed.

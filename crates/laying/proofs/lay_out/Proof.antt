@@ -43,7 +43,10 @@ abbrev run : tie.After-wide Inv-loop μ-loop → List Write
 run c = writes (start c .args .ids .now) (start c .args .masks .now) (start c .args .values .now)
 
 run-length : (c : tie.After-wide Inv-loop μ-loop) → length (run c) ≡ length (start c .args .ids .now)
-run-length c = let G = start c .pre .0 in writes-length (start c .args .ids .now) (start c .args .masks .now) (start c .args .values .now) (G .masks) (G .values)
+run-length c =
+    let G = start c .pre .0 in
+    let a = start c .args in
+    writes-length (a .ids .now) (a .masks .now) (a .values .now) (G .masks) (G .values)
 
 below : (c : tie.After-wide Inv-loop μ-loop) → turn c .loop .i < length (run c)
 below c = omega (arith, c .before .before .loop-test .taken, run-length c)
@@ -88,7 +91,8 @@ loop-again c =
     let a = b .args in
     let o = c .before .before .before .before .before .before .before .before .loop in
     let p = c .before .before .before .put-command in
-    let m = laid-more _ _ _ _ _ _ (below (c .before .before .before .before .before)) (planned (c .before .before .before .before .before)) (o .inv .0) in
+    let w = c .before .before .before .before .before in
+    let m = laid-more _ _ _ _ _ _ (below w) (planned w) (o .inv .0) in
     (rw (c .words-of .ensures, p .ensures) m, p .kept .1 .1 .1 .1 .1 .0 ∙ o .inv .1)
 
 same-length : tie.Need-same-length Inv-loop μ-loop

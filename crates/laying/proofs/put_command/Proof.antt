@@ -15,7 +15,9 @@ use Rattle.laying.proofs.put_command.Statement.{statement}
 use Rattle.laying.proofs.put_command.Tie as tie
 
 abbrev Inv-loop : tie.InvT-loop
-Inv-loop ids masks values i k space₀ at m₀ space m = (1 ≤ m) × (m ≤ k) × (length space ≡ length space₀) × (space ≡ paste space₀ at (command k (drop i (writes ids masks values))) (m + 1))
+Inv-loop ids masks values i k space₀ at m₀ space m =
+    (1 ≤ m) × (m ≤ k) × (length space ≡ length space₀)
+    × (space ≡ paste space₀ at (command k (drop i (writes ids masks values))) (m + 1))
 
 abbrev μ-loop : tie.MeasureT-loop
 μ-loop ids masks values i k space₀ at m₀ space m = k - m
@@ -49,11 +51,11 @@ mul-header-of-2 c =
 
 shared-slice-read-header-of-2 : tie.Need-shared-slice-read-header-of-2 Inv-loop μ-loop
 shared-slice-read-header-of-2 c =
-    omega (arith, c .before .before .before .before .before .before .before .pre .1 .low, c .before .before .before .before .before .before .before .pre .0 .masks)
+    let b = c .before .before .before .before .before .before .before in omega (arith, b .pre .1 .low, b .pre .0 .masks)
 
 step-at-requires : tie.Need-step-at-requires Inv-loop μ-loop
 step-at-requires c κs =
-    (c .before .before .before .before .before .before .before .pre .1 .low, c .before .before .before .before .before .before .before .pre .2)
+    let b = c .before .before .before .before .before .before .before in (b .pre .1 .low, b .pre .2)
 
 header-of-requires : tie.Need-header-of-requires Inv-loop μ-loop
 header-of-requires c κs =
@@ -88,8 +90,9 @@ begun : (c : tie.After-header-of Inv-loop μ-loop) → after-two c ≡ paste (st
 begun c =
     let b = start c in
     let a = b .args in
-    two-words (a .ids .now) (a .masks .now) (a .values .now) (b .pre .0) (a .i) (a .k) (b .pre .1) (a .space .now) (a .at) (c .header-of .result) (b .pre .3)
-    (c .header-of .ensures ∙ ap (header (getD (a .ids .now) (a .i) 0) (getD (a .masks .now) (a .i) 0) (a .k)) (c .before .step-at .ensures .0))
+    let h = header (getD (a .ids .now) (a .i) 0) (getD (a .masks .now) (a .i) 0) (a .k) in
+    two-words (a .ids .now) (a .masks .now) (a .values .now) (b .pre .0) (a .i) (a .k) (b .pre .1) (a .space .now) (a .at)
+    (c .header-of .result) (b .pre .3) (c .header-of .ensures ∙ ap h (c .before .step-at .ensures .0))
 
 long : (c : tie.After-header-of Inv-loop μ-loop) → length (after-two c) ≡ length (start c .args .space .now)
 long c = length-set (set (start c .args .space .now) _ _) _ _ ∙ length-set (start c .args .space .now) _ _
@@ -109,7 +112,8 @@ returns c =
     let b = start h in
     let a = b .args in
     c .before .before .put-short .ensures
-    ∙ short-words (a .ids .now) (a .masks .now) (a .values .now) (b .pre .0) (a .i) (a .k) (b .pre .1) (a .space .now) (after-two h) (a .at) (c .before .before .before .before .if1 .taken) (b .pre .3) (begun h)
+    ∙ short-words (a .ids .now) (a .masks .now) (a .values .now) (b .pre .0) (a .i) (a .k) (b .pre .1) (a .space .now) (after-two h) (a .at)
+    (c .before .before .before .before .if1 .taken) (b .pre .3) (begun h)
 
 loop-holds : tie.Need-loop-holds Inv-loop μ-loop
 loop-holds c =
@@ -117,7 +121,9 @@ loop-holds c =
     let a = b .args in
     let C = words-put (c .before) in
     let e = begun (c .before) in
-    (omega arith, b .pre .1 .low, refl, rw e (sym (copy-more (a .space .now) C (a .at) 2 (1 + 1) (omega (arith, b .pre .3, b .pre .1 .low)) (omega (arith, b .pre .1 .long)) (omega arith))))
+    let r : a .at + (1 + 1) ≤ length (a .space .now) = omega (arith, b .pre .3, b .pre .1 .low) in
+    let m = copy-more (a .space .now) C (a .at) 2 (1 + 1) r (omega (arith, b .pre .1 .long)) (omega arith) in
+    (omega arith, b .pre .1 .low, refl, rw e (sym m))
 
 add-space-2 : tie.Need-add-space-2 Inv-loop μ-loop
 add-space-2 c =
@@ -162,8 +168,10 @@ loop-again c =
       (let z : 1 ≤ o .m + 1 = omega arith in z),
       (let z : o .m + 1 ≤ a .k = omega arith in z),
       length-set (o .space) _ _ ∙ o .inv .2,
-      next-word _ C (a .at) (o .m + 1) (a .at + 1 + o .m) (o .m + 1 + 1) _ (o .space) (omega arith) (omega arith) (omega arith) (omega (arith, b .pre .1 .long)) (o .inv .3)
-          (word-extra (a .ids .now) (a .masks .now) (a .values .now) (b .pre .0) (a .i) (a .k) (b .pre .1) (o .m) (o .inv .0) (omega arith)),
+      next-word _ C (a .at) (o .m + 1) (a .at + 1 + o .m) (o .m + 1 + 1) _ (o .space) (omega arith) (omega arith) (omega arith)
+          (omega (arith, b .pre .1 .long)) (o .inv .3)
+          (word-extra (a .ids .now) (a .masks .now) (a .values .now) (b .pre .0) (a .i) (a .k) (b .pre .1) (o .m) (o .inv .0)
+          (omega arith)),
     )
 
 add-space-5 : tie.Need-add-space-5 Inv-loop μ-loop
@@ -189,8 +197,11 @@ returns-2 c =
     let a = b .args in
     let o = c .before .before .loop in
     let C = words-put (c .before .before .before .before) in
-    let z = copied (a .space .now) C _ (o .space) (a .at) (o .m) (a .k + 1) (begun (c .before .before .before .before)) (o .inv .3) (omega arith) (omega (arith, b .pre .1 .low)) (omega arith) (omega (arith, b .pre .1 .long)) in
-    next-word (a .space .now) C (a .at) (a .k + 1) (a .at + 1 + a .k) (words (a .k)) 0 (o .space) (omega arith) (omega arith) (omega arith) (omega (arith, b .pre .1 .long)) z
+    let z =
+    copied (a .space .now) C _ (o .space) (a .at) (o .m) (a .k + 1) (begun (c .before .before .before .before)) (o .inv .3) (omega arith)
+    (omega (arith, b .pre .1 .low)) (omega arith) (omega (arith, b .pre .1 .long)) in
+    next-word (a .space .now) C (a .at) (a .k + 1) (a .at + 1 + a .k) (words (a .k)) 0 (o .space) (omega arith) (omega arith) (omega arith)
+    (omega (arith, b .pre .1 .long)) z
     (word-pad (a .ids .now) (a .masks .now) (a .values .now) (b .pre .0) (a .i) (a .k) (b .pre .1) (omega arith))
 
 same-length-3 : tie.Need-same-length-3 Inv-loop μ-loop
@@ -203,7 +214,8 @@ returns-3 c =
     let a = b .args in
     let o = c .before .before .loop in
     let C = words-put (c .before .before .before .before) in
-    copied (a .space .now) C _ (o .space) (a .at) (o .m) (words (a .k)) (begun (c .before .before .before .before)) (o .inv .3) (omega arith) (omega (arith, b .pre .1 .low)) (omega arith) (omega (arith, b .pre .1 .long))
+    copied (a .space .now) C _ (o .space) (a .at) (o .m) (words (a .k)) (begun (c .before .before .before .before)) (o .inv .3)
+    (omega arith) (omega (arith, b .pre .1 .low)) (omega arith) (omega (arith, b .pre .1 .long))
 
 pub put-command-spec : {M : Type 1} → statement M
 put-command-spec =

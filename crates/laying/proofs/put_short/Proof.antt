@@ -51,7 +51,8 @@ mul-space-3 c = search needs
 
 slice-write-space-2 : tie.Need-slice-write-space-2
 slice-write-space-2 c =
-    let a = c .before .before .before .before .before .before .args in omega (arith, length-set (a .space .now) (a .at + 2) (getD (a .values .now) (a .i + 1) 0))
+    let a = c .before .before .before .before .before .before .args in
+    omega (arith, length-set (a .space .now) (a .at + 2) (getD (a .values .now) (a .i + 1) 0))
 
 same-length : tie.Need-same-length
 same-length c = search needs

@@ -1,5 +1,5 @@
--- The loop, from the end of the run: the run of writes that one command could carry, the least words and the tables are right from write i on,
--- whatever the values; the id and the mask of write i are held for the one before it. Assumes nothing.
+-- The loop, from the end of the run: the run of writes that one command could carry, the least words and the tables are right from write
+-- i on, whatever the values; the id and the mask of write i are held for the one before it. Assumes nothing.
 use mathlib.Core.Path.{_≡_, refl, sym, _∙_}
 use mathlib.Core.Bool.{Bool, _&&_}
 use mathlib.Core.List.{List}
@@ -13,15 +13,23 @@ use Rattle.runs.specs.Span.{chain}
 use Rattle.runs.specs.PackedList.{writes}
 use Rattle.runs.proofs.Chain.{chain-fits}
 use Rattle.runs.proofs.Writes.{writes-length}
-use Rattle.planning.proofs.Plans.{chain-linked, chain-on, chain-apart, step-two, run-some, run-longer, Run, least-small, ends-more, Kept, kept-none, kept-more, run-span, run-longest, Right, choice-right}
+use Rattle.planning.proofs.Links.{chain-linked, chain-on, chain-apart, step-two, run-some, run-longer}
+use Rattle.planning.proofs.Ends.{Run, least-small, ends-more, run-span, run-longest}
+use Rattle.planning.proofs.Plans.{Kept, kept-none, kept-more, Right, choice-right}
 use Rattle.planning.proofs.plan_run.Statement.{statement}
 use Rattle.planning.proofs.plan_run.Tie as tie
 
 abbrev Inv-loop : tie.InvT-loop
-Inv-loop ids masks least₀ extra₀ i₀ need₀ after₀ was₀ run₀ last₀ before₀ next-id₀ next-mask₀ least extra i need after was run last before next-id next-mask = (i ≤ length ids) × (length least ≡ length least₀) × (length extra ≡ length extra₀) × (was < 2) × (i < length ids → (next-id ≡ getD ids i 0) × (next-mask ≡ getD masks i 0)) × (length ids ≤ i → (was ≡ 0) × (next-id ≡ 0)) × ((vs : List ℕ) → length ids ≡ length vs → Kept (writes ids masks vs) i was run last before need after least extra)
+Inv-loop ids masks least₀ extra₀ i₀ need₀ after₀ was₀ run₀ last₀ before₀ next-id₀ next-mask₀
+    least extra i need after was run last before next-id next-mask =
+    (i ≤ length ids) × (length least ≡ length least₀) × (length extra ≡ length extra₀) × (was < 2)
+    × (i < length ids → (next-id ≡ getD ids i 0) × (next-mask ≡ getD masks i 0)) × (length ids ≤ i → (was ≡ 0) × (next-id ≡ 0))
+    × ((vs : List ℕ) → length ids ≡ length vs → Kept (writes ids masks vs) i was run last before need after least extra)
 
 abbrev μ-loop : tie.MeasureT-loop
-μ-loop ids masks least₀ extra₀ i₀ need₀ after₀ was₀ run₀ last₀ before₀ next-id₀ next-mask₀ least extra i need after was run last before next-id next-mask = i
+μ-loop ids masks least₀ extra₀ i₀ need₀ after₀ was₀ run₀ last₀ before₀ next-id₀ next-mask₀
+    least extra i need after was run last before next-id next-mask =
+    i
 
 mul-least : tie.Need-mul-least Inv-loop μ-loop
 mul-least c = search needs
@@ -32,14 +40,18 @@ slice-write-least c = search needs
 loop-holds : tie.Need-loop-holds Inv-loop μ-loop
 loop-holds c =
     let b = c .before .before .before .before in
-    let a = b .args in (
-      (let z : length (a .ids .now) ≤ length (a .ids .now) = omega arith in z),
+    let a = b .args in
+    let is = a .ids .now in
+    let ms = a .masks .now in (
+      (let z : length is ≤ length is = omega arith in z),
       refl,
       refl,
       (let z : 0 < 2 = omega arith in z),
       (λ q. absurd (omega arith)),
       (λ q. (refl, refl)),
-      (λ vs q. kept-none (writes (a .ids .now) (a .masks .now) vs) (length (a .ids .now)) (a .least .now) (a .extra .now) (sym (writes-length (a .ids .now) (a .masks .now) vs (b .pre .0) q)) (b .pre .2)),
+      (λ vs q.
+          let n = sym (writes-length is ms vs (b .pre .0) q) in
+          kept-none (writes is ms vs) (length is) (a .least .now) (a .extra .now) n (b .pre .2)),
     )
 
 sub-i : tie.Need-sub-i Inv-loop μ-loop
@@ -84,17 +96,21 @@ goes-on c vs q =
     let o = turn c .loop in
     let K = o .inv .6 vs q .runs in
     let n = run-length c vs q in
-    chain-on (run c vs) (o .i) (o .was) (o .run) (o .next-id) _ (c .before .step-to .result) (c .going-on .result) (o .inv .3) (K .writes) (K .alone)
-    (λ h. o .inv .5 (omega arith)) (c .before .step-to .ensures) (c .going-on .ensures)
+    chain-on (run c vs) (o .i) (o .was) (o .run) (o .next-id) _ (c .before .step-to .result) (c .going-on .result)
+    (o .inv .3) (K .writes) (K .alone) (λ h. o .inv .5 (omega arith)) (c .before .step-to .ensures) (c .going-on .ensures)
 
 steps : (c : tie.After-going-on Inv-loop μ-loop) → c .before .step-to .result < 2
-steps c = step-two (turn c .loop .next-id) (getD (start c .args .ids .now) (turn c .loop .i - 1) 0) (c .before .step-to .result) (c .before .step-to .ensures)
+steps c =
+    let o = turn c .loop in
+    let s = c .before .step-to in
+    step-two (o .next-id) (getD (start c .args .ids .now) (o .i - 1) 0) (s .result) (s .ensures)
 
 linked-requires : tie.Need-linked-requires Inv-loop μ-loop
 linked-requires c κs =
     let i = start c .args .ids .now in
     let l = drop (turn c .loop .i) (run c i) in
-    omega (arith, steps c, goes-on c i refl, chain-fits (c .before .step-to .result) l, length-drop (turn c .loop .i) (run c i), run-length c i refl)
+    let f = chain-fits (c .before .step-to .result) l in
+    omega (arith, steps c, goes-on c i refl, f, length-drop (turn c .loop .i) (run c i), run-length c i refl)
 
 links : (c : tie.After-linked Inv-loop μ-loop) (vs : List ℕ) → length (start (c .before) .args .ids .now) ≡ length vs
     → c .linked .result ≡ chain (c .before .before .step-to .result) (drop (turn (c .before) .loop .i - 1) (run (c .before) vs))
@@ -102,7 +118,8 @@ links c vs q =
     let g = c .before in
     let a = start g .args in
     let o = turn g .loop in
-    chain-linked (g .before .step-to .result) (a .ids .now) (a .masks .now) vs (o .i) (o .i - 1) (o .next-id) (o .next-mask) (g .going-on .result) (c .linked .result)
+    chain-linked (g .before .step-to .result) (a .ids .now) (a .masks .now) vs (o .i) (o .i - 1) (o .next-id) (o .next-mask)
+    (g .going-on .result) (c .linked .result)
     (start g .pre .0) q (omega arith) (omega arith) (o .inv .4) (goes-on g vs q) (c .linked .ensures)
 
 words-at-requires : tie.Need-words-at-requires Inv-loop μ-loop
@@ -137,26 +154,38 @@ going c = link c .before
 abbrev joins : tie.After-end-at2 Inv-loop μ-loop → Bool
 joins c =
     let g = going c in
+    let a = start g .args in
     let o = turn g .loop in
-    eqb (o .next-id) (getD (start g .args .ids .now) (o .i - 1) 0 + g .before .step-to .result) && eqb (o .next-mask) (getD (start g .args .masks .now) (o .i - 1) 0)
+    let i = o .i - 1 in
+    eqb (o .next-id) (getD (a .ids .now) i 0 + g .before .step-to .result) && eqb (o .next-mask) (getD (a .masks .now) i 0)
 
 some : (c : tie.After-end-at2 Inv-loop μ-loop) → 1 ≤ link c .linked .result
 some c = run-some (joins c) (going c .going-on .result) (link c .linked .result) (link c .linked .ensures)
 
 runs : (c : tie.After-end-at2 Inv-loop μ-loop) (vs : List ℕ) → length (start (going c) .args .ids .now) ≡ length vs
-    → Run (run (going c) vs) (turn (going c) .loop .i - 1) (going c .before .step-to .result) (link c .linked .result) (c .before .end-at .result) (c .end-at2 .result)
+    → let g = going c in
+    let last = c .before .end-at in
+    Run (run g vs) (turn g .loop .i - 1) (g .before .step-to .result) (link c .linked .result) (last .result) (c .end-at2 .result)
 runs c vs q =
     let g = going c in
     let a = start g .args in
     let o = turn g .loop in
     let K = o .inv .6 vs q in
+    let step = g .before .step-to in
+    let on = g .going-on in
+    let joined = link c .linked in
+    let last = c .before .end-at in
+    let before = c .end-at2 in
+    let longer =
+    run-longer (joins c) (eqb (step .result) (o .was)) (o .run) (on .result) (joined .result) (on .ensures) (joined .ensures) in
     let E =
-    ends-more (run g vs) (o .i) (o .i - 1) (o .was) (o .run) (o .last) (o .before) (o .need) (o .after) (link c .linked .result) (c .before .end-at .result) (c .end-at2 .result) (omega arith) (K .runs) (K .words) (K .next)
-    (run-longer (joins c) (eqb (g .before .step-to .result) (o .was)) (o .run) (g .going-on .result) (link c .linked .result) (g .going-on .ensures) (link c .linked .ensures)) (c .before .end-at .ensures) (c .end-at2 .ensures) in
+    ends-more (run g vs) (o .i) (o .i - 1) (o .was) (o .run) (o .last) (o .before) (o .need) (o .after) (joined .result)
+    (last .result) (before .result) (omega arith) (K .runs) (K .words) (K .next) longer (last .ensures) (before .ensures) in
     record {
       writes = links (link c) vs q;
       alone =
-          λ h. chain-apart (a .ids .now) (a .masks .now) vs (o .i) (o .i - 1) (o .next-id) (o .next-mask) (g .before .step-to .result) (start g .pre .0) q (omega arith) (omega arith) (o .inv .4) (g .before .step-to .ensures);
+          λ h. chain-apart (a .ids .now) (a .masks .now) vs (o .i) (o .i - 1) (o .next-id) (o .next-mask) (step .result) (start g .pre .0) q
+          (omega arith) (omega arith) (o .inv .4) (step .ensures);
       lasts = E .0;
       befores = E .1;
     }
@@ -170,8 +199,13 @@ choose-requires c κs =
     let K = o .inv .6 i refl in
     let n = run-length g i refl in
     let m = length-set (start g .args .least .now) (length i) 0 in
-    run-longest (run g i) (o .i) (o .i - 1) (g .before .step-to .result) (link d .linked .result) (d .before .end-at .result) (d .end-at2 .result) (omega arith) (steps g) (some d) (runs d i refl)
-    (o .need) (o .after) (o .last) (o .before) (o .least) (o .extra) (d .before .before .words-at .result) (omega arith) (K .plan) (K .words) (omega (arith, o .inv .1, start g .pre .2)) (omega (arith, start g .pre .1)) (d .before .end-at .ensures) (d .end-at2 .ensures) (d .before .before .words-at .ensures)
+    let last = d .before .end-at in
+    let before = d .end-at2 in
+    let words = d .before .before .words-at in
+    run-longest (run g i) (o .i) (o .i - 1) (g .before .step-to .result) (link d .linked .result) (last .result) (before .result)
+    (omega arith) (steps g) (some d) (runs d i refl) (o .need) (o .after) (o .last) (o .before) (o .least) (o .extra) (words .result)
+    (omega arith) (K .plan) (K .words) (omega (arith, o .inv .1, start g .pre .2)) (omega (arith, start g .pre .1))
+    (last .ensures) (before .ensures) (words .ensures)
 
 abbrev ended : tie.After-choose Inv-loop μ-loop → tie.After-end-at2 Inv-loop μ-loop
 ended c = c .before .before
@@ -183,8 +217,11 @@ right c vs q =
     let g = going d in
     let o = turn g .loop in
     let n = run-length g vs q in
+    let R = runs d vs q in
+    let s =
+    run-span (run g vs) (o .i) (o .i - 1) (g .before .step-to .result) (link d .linked .result) _ _ (omega arith) (steps g) (some d) R in
     choice-right (run g vs) (o .i) (o .i - 1) _ (o .least) (o .extra) (c .choose .result) (omega arith) (omega arith) (o .inv .6 vs q .plan)
-    (run-span (run g vs) (o .i) (o .i - 1) (g .before .step-to .result) (link d .linked .result) _ _ (omega arith) (steps g) (some d) (runs d vs q)) (c .choose .ensures)
+    s (c .choose .ensures)
 
 cast-least : tie.Need-cast-least Inv-loop μ-loop
 cast-least c =
@@ -230,7 +267,9 @@ loop-again c =
       (λ q. absurd (omega (arith, o .inv .0))),
       (λ vs q.
           let n = run-length g vs q in
-          kept-more (run g vs) (o .i) (o .i - 1) _ _ _ _ (o .need) (o .least) (o .extra) (c .before .choose .result) (omega arith) (omega arith) (runs d vs q) (o .inv .6 vs q .words) (right (c .before) vs q) (omega arith) (omega arith) (o .inv .6 vs q .plan)),
+          let K = o .inv .6 vs q in
+          kept-more (run g vs) (o .i) (o .i - 1) _ _ _ _ (o .need) (o .least) (o .extra) (c .before .choose .result) (omega arith)
+          (omega arith) (runs d vs q) (K .words) (right (c .before) vs q) (omega arith) (omega arith) (K .plan)),
     )
 
 same-length : tie.Need-same-length Inv-loop μ-loop

@@ -9,6 +9,10 @@ use borrow.Author.Needs.{needs}
 use Rattle.ports.proofs.put_light.Statement.{statement}
 use Rattle.ports.proofs.put_light.Tie as tie
 
+-- the open table is one of the named ones, which stand in the entries
+open-small : (c : tie.Then1) → getD (c .before .before .before .before .before .before .args .cells .now) 0x1C5 0 / 256 % 32 < 0x18
+open-small c = named-small _ (sym (c .before .is-named .ensures) ∙ c .if1 .taken)
+
 slice-read-x : tie.Need-slice-read-x
 slice-read-x c = search needs
 
@@ -34,8 +38,7 @@ mul-entered : tie.Need-mul-entered
 mul-entered c = search needs
 
 slice-read-entered : tie.Need-slice-read-entered
-slice-read-entered c =
-    let t : getD (c .before .before .before .before .before .before .before .args .cells .now) 0x1C5 0 / 256 % 32 < 0x18 = named-small _ (sym (c .before .before .is-named .ensures) ∙ c .before .if1 .taken) in omega arith
+slice-read-entered c = let t = open-small (c .before) in omega arith
 
 entered-requires : tie.Need-entered-requires
 entered-requires c κs = search needs
@@ -44,8 +47,7 @@ mul-light : tie.Need-mul-light
 mul-light c = search needs
 
 slice-write-light : tie.Need-slice-write-light
-slice-write-light c =
-    let t : getD (c .before .before .before .before .before .before .before .before .args .cells .now) 0x1C5 0 / 256 % 32 < 0x18 = named-small _ (sym (c .before .before .before .is-named .ensures) ∙ c .before .before .if1 .taken) in omega arith
+slice-write-light c = let t = open-small (c .before .before) in omega arith
 
 same-length : tie.Need-same-length
 same-length c = search needs

@@ -32,7 +32,8 @@ cast-upload-2 c = search needs
 upload-requires : tie.Need-upload-requires
 upload-requires c κs =
     let a = c .before .before .before .before .before .before .before .before in
-    let t : getD (a .args .cells .now) 0x1C5 0 / 256 % 32 < 0x18 = named-small _ (sym (c .before .before .is-named .ensures) ∙ c .before .if1 .taken) in
+    let x = getD (a .args .cells .now) 0x1C5 0 in
+    let t : x / 256 % 32 < 0x18 = named-small _ (sym (c .before .before .is-named .ensures) ∙ c .before .if1 .taken) in
     (omega arith, omega (arith, a .pre .1), omega (arith, a .pre .2))
 
 same-length : tie.Need-same-length
@@ -43,7 +44,11 @@ same-length-2 c = search needs
 
 returns : tie.Need-returns
 returns c =
-    (rw (c .before .before .before .before .before .before .risen256-by .ensures), rw (sym (c .before .before .before .before .before .is-named .ensures) ∙ c .before .before .before .before .if1 .taken) (c .before .before .upload .ensures))
+    let at-upload = c .before .before in
+    let at-if1 = at-upload .before .before in
+    let at-is-named = at-if1 .before in
+    let n = sym (at-is-named .is-named .ensures) ∙ at-if1 .if1 .taken in
+    (rw (at-is-named .before .risen256-by .ensures), rw n (at-upload .upload .ensures))
 
 same-length-3 : tie.Need-same-length-3
 same-length-3 c = search needs

@@ -1,19 +1,26 @@
 -- Each way out is one kind of command. Assumes nothing.
-use mathlib.Core.Path.{sym}
+use mathlib.Core.Path.{_≡_, sym, _∙_}
+use mathlib.Core.Bool.{true}
 use native.Mathlib.Omega.{arith}
+use Rattle.words.specs.Header.{idOf}
+use Rattle.words.specs.Writes.{fogData, lightData}
+use Rattle.words.specs.Commands.{headerAt}
 use Rattle.reader.proofs.Uploads.{fog-command, light-command}
 use borrow.Author.Needs.{needs}
 use Rattle.reader.proofs.apply_at.Statement.{statement}
 use Rattle.reader.proofs.apply_at.Tie as tie
 
-add-h : tie.Need-add-h
-add-h c = search needs
+add-parts : tie.Need-add-parts
+add-parts c = search needs
 
-mul-h : tie.Need-mul-h
-mul-h c = search needs
+mul-parts : tie.Need-mul-parts
+mul-parts c = search needs
 
-shared-slice-read-h : tie.Need-shared-slice-read-h
-shared-slice-read-h c = search needs
+shared-slice-read-parts : tie.Need-shared-slice-read-parts
+shared-slice-read-parts c = search needs
+
+parts-requires : tie.Need-parts-requires
+parts-requires c κs = search needs
 
 apply-rising-requires : tie.Need-apply-rising-requires
 apply-rising-requires c κs = search needs
@@ -53,10 +60,21 @@ same-length-5 c = search needs
 
 returns-2 : tie.Need-returns-2
 returns-2 c =
-    let s = c .before .before .before .before .before .before .before .before .before .before .before .before .before .before .before .before .before .before .before .before .before .before in
-    let a = s .args in
-    rw (c .before .before .before .before .upload-fog .ensures .0, c .before .before .before .before .upload-fog .ensures .1, c .before .before .before .before .before .before .before .before .before .before .before .put-fog .ensures .0, c .before .before .before .before .before .before .before .before .before .before .before .put-fog .ensures .1)
-    (sym (fog-command (a .list .now) (a .at) (c .before .before .before .before .before .before .before .before .before .before .before .before .before .before .before .before .if1 .left) (a .cells .now) (a .fog .now) (a .light .now) (c .before .before .before .before .before .before .before .before .before .before .before .before .before .before .before .if2 .taken) (omega (arith, s .pre .0 .0))))
+    let at-upload-fog = c .before .before .before .before in
+    let at-put-fog = at-upload-fog .before .before .before .before .before .before .before in
+    let at-if2 = at-put-fog .before .before .before .before in
+    let at-if1 = at-if2 .before in
+    let at-parts = at-if1 .before .before in
+    let at-start = at-parts .before .before .before .before .before .before in
+    let a = at-start .args in
+    let h = at-parts .parts .ensures in
+    let one = sym (h .3) ∙ at-if1 .if1 .left in
+    let to : fogData (idOf (headerAt (a .list .now) (a .at))) ≡ true = rw (← h .0) (at-if2 .if2 .taken) in
+    let up = at-upload-fog .upload-fog .ensures in
+    let first = at-put-fog .put-fog .ensures in
+    rw (up .0, up .1, first .0, first .1, h .2)
+    (sym (fog-command (a .list .now) (a .at) one (a .cells .now) (a .fog .now) (a .light .now) to
+    (omega (arith, at-start .pre .0 .0 .0))))
 
 mul-put-light : tie.Need-mul-put-light
 mul-put-light c = search needs
@@ -81,28 +99,55 @@ same-length-7 c = search needs
 
 returns-3 : tie.Need-returns-3
 returns-3 c =
-    let s = c .before .before .before .before .before .before .before .before .before .before .before .before .before .before .before .before .before .before .before .before .before .before .before in
-    let a = s .args in
-    rw (c .before .before .before .before .upload-light .ensures .0, c .before .before .before .before .upload-light .ensures .1, c .before .before .before .before .before .before .before .before .before .before .before .put-light .ensures .0, c .before .before .before .before .before .before .before .before .before .before .before .put-light .ensures .1)
-    (sym (light-command (a .list .now) (a .at) (c .before .before .before .before .before .before .before .before .before .before .before .before .before .before .before .before .before .if1 .left) (a .cells .now) (a .fog .now) (a .light .now) (c .before .before .before .before .before .before .before .before .before .before .before .before .before .before .before .if3 .taken) (omega (arith, s .pre .0 .0))))
+    let at-upload-light = c .before .before .before .before in
+    let at-put-light = at-upload-light .before .before .before .before .before .before .before in
+    let at-if3 = at-put-light .before .before .before .before in
+    let at-if1 = at-if3 .before .before in
+    let at-parts = at-if1 .before .before in
+    let at-start = at-parts .before .before .before .before .before .before in
+    let a = at-start .args in
+    let h = at-parts .parts .ensures in
+    let one = sym (h .3) ∙ at-if1 .if1 .left in
+    let to : lightData (idOf (headerAt (a .list .now) (a .at))) ≡ true = rw (← h .0) (at-if3 .if3 .taken) in
+    let up = at-upload-light .upload-light .ensures in
+    let first = at-put-light .put-light .ensures in
+    rw (up .0, up .1, first .0, first .1, h .2)
+    (sym (light-command (a .list .now) (a .at) one (a .cells .now) (a .fog .now) (a .light .now) to
+    (omega (arith, at-start .pre .0 .0 .0))))
 
 apply-same-requires : tie.Need-apply-same-requires
-apply-same-requires c κs = search needs
+apply-same-requires c κs =
+    let at-if3 = c .before in
+    let at-if2 = at-if3 .before in
+    let at-if1 = at-if2 .before in
+    let at-parts = at-if1 .before .before in
+    let at-start = at-parts .before .before .before .before .before .before in
+    let h = at-parts .parts .ensures in (
+      (at-start .pre .0 .0 .0, at-start .pre .0 .1, at-start .pre .1),
+      record {
+        one = sym (h .3) ∙ at-if1 .if1 .left;
+        noFog = rw (← h .0) (at-if2 .if2 .left);
+        noLight = rw (← h .0) (at-if3 .if3 .left);
+      },
+    )
 
 same-length-8 : tie.Need-same-length-8
 same-length-8 c = search needs
 
 returns-4 : tie.Need-returns-4
 returns-4 c =
-    let a = c .before .before .before .before .before .before .before .before .before .before .before .before .args in c .before .before .apply-same .ensures (a .fog .now) (a .light .now)
+    let at-apply-same = c .before .before in
+    let at-start = at-apply-same .before .before .before .before .before .before .before .before .before .before .before .before in
+    at-apply-same .apply-same .ensures (at-start .args .fog .now) (at-start .args .light .now)
 
 pub apply-at-spec : {M : Type 1} → statement M
 apply-at-spec =
     tie.close
     (tie.spec
-    add-h
-    mul-h
-    shared-slice-read-h
+    add-parts
+    mul-parts
+    shared-slice-read-parts
+    parts-requires
     apply-rising-requires
     same-length
     same-length-2

@@ -1,4 +1,5 @@
--- The invariant: what is left of the command leads from here to the state that all of it leads to, and its next value stands at j. Assumes nothing.
+-- The invariant: what is left of the command leads from here to the state that all of it leads to, and its next value stands at j.
+-- Assumes nothing.
 use mathlib.Core.Path.{_≡_, sym, _∙_}
 use Prim.Native.Nat.{_+_, _-_, _≤_, _<_}
 use native.Mathlib.Omega.{arith}
@@ -13,7 +14,7 @@ use Rattle.reader.proofs.apply_rising.Statement.{statement}
 use Rattle.reader.proofs.apply_rising.Tie as tie
 
 abbrev Inv-loop : tie.InvT-loop
-Inv-loop cells₀ fog₀ light₀ slots held list at h bytes id₀ left₀ j₀ next₀ cells fog light id left j next =
+Inv-loop cells₀ fog₀ light₀ slots held list at bytes id₀ left₀ j₀ next₀ cells fog light id left j next =
     (length cells ≡ 768) × (length fog ≡ 128) × (length light ≡ 6144)
     × (j + next + left ≡ at + 3 + countOf (headerAt list at)) × (1 ≤ next) × (next ≤ 2) × (left ≤ 256) × (id + left ≤ 65792)
     × (left ≤ countOf (headerAt list at) + 1)
@@ -22,17 +23,20 @@ Inv-loop cells₀ fog₀ light₀ slots held list at h bytes id₀ left₀ j₀ 
     ≡ applyAll (st cells₀ fog₀ light₀) (expand list at))
 
 abbrev μ-loop : tie.MeasureT-loop
-μ-loop cells₀ fog₀ light₀ slots held list at h bytes id₀ left₀ j₀ next₀ cells fog light id left j next =
+μ-loop cells₀ fog₀ light₀ slots held list at bytes id₀ left₀ j₀ next₀ cells fog light id left j next =
     left
 
-add-h : tie.Need-add-h Inv-loop μ-loop
-add-h c = search needs
+add-parts : tie.Need-add-parts Inv-loop μ-loop
+add-parts c = search needs
 
-mul-h : tie.Need-mul-h Inv-loop μ-loop
-mul-h c = search needs
+mul-parts : tie.Need-mul-parts Inv-loop μ-loop
+mul-parts c = search needs
 
-shared-slice-read-h : tie.Need-shared-slice-read-h Inv-loop μ-loop
-shared-slice-read-h c = search needs
+shared-slice-read-parts : tie.Need-shared-slice-read-parts Inv-loop μ-loop
+shared-slice-read-parts c = search needs
+
+parts-requires : tie.Need-parts-requires Inv-loop μ-loop
+parts-requires c κs = search needs
 
 spread-mask-requires : tie.Need-spread-mask-requires Inv-loop μ-loop
 spread-mask-requires c κs = search needs
@@ -42,26 +46,46 @@ add-left c = search needs
 
 loop-holds : tie.Need-loop-holds Inv-loop μ-loop
 loop-holds c =
-    let s = c .before .before .before .before .before .before in
-    let n = countOf (headerAt (s .args .list .now) (s .args .at)) in
+    let at-parts = c .before .before in
+    let at-start = at-parts .before .before .before .before .before .before in
+    let n = countOf (headerAt (at-start .args .list .now) (at-start .args .at)) in
     let k : n + 1 - (n + 1) ≡ 0 = omega arith in
-    (s .pre .0 .0, s .pre .0 .1, s .pre .0 .2, omega arith, omega arith, omega arith, omega arith, omega arith, omega arith, rw k, rw k)
+    let p = at-start .pre .0 .0 in
+    let h = at-parts .parts .ensures in (
+      p .0,
+      p .1,
+      p .2,
+      omega arith,
+      omega arith,
+      omega arith,
+      omega arith,
+      omega arith,
+      omega arith,
+      rw (h .2, k),
+      rw (h .2, k, h .0),
+    )
 
 mul-put-one : tie.Need-mul-put-one Inv-loop μ-loop
 mul-put-one c = search needs
 
 shared-slice-read-put-one : tie.Need-shared-slice-read-put-one Inv-loop μ-loop
 shared-slice-read-put-one c =
-    let o = c .before .before .before .before .before .loop in
-    omega (arith, c .before .before .before .before .before .before .before .before .before .before .before .before .pre .1 .0, o .inv .3, o .inv .4, c .before .before .before .before .loop-test .taken)
+    let at-loop-test = c .before .before .before .before in
+    let at-loop = at-loop-test .before in
+    let at-start = at-loop .before .before .before .before .before .before .before .before .before in
+    let o = at-loop .loop in
+    omega (arith, at-start .pre .1 .0, o .inv .3, o .inv .4, at-loop-test .loop-test .taken)
 
 put-one-requires : tie.Need-put-one-requires Inv-loop μ-loop
 put-one-requires c κs = search needs
 
 add-j : tie.Need-add-j Inv-loop μ-loop
 add-j c =
-    let o = c .before .before .before .before .before .before .before .before .before .before .before .before .loop in
-    omega (arith, c .before .before .before .before .before .before .before .before .before .before .before .before .before .before .before .before .before .before .before .good, c .before .before .before .before .before .before .before .before .before .before .before .before .before .before .before .before .before .before .before .pre .1 .0, o .inv .3, o .inv .4, c .before .before .before .before .before .before .before .before .before .before .before .loop-test .taken)
+    let at-loop-test = c .before .before .before .before .before .before .before .before .before .before .before in
+    let at-loop = at-loop-test .before in
+    let at-start = at-loop .before .before .before .before .before .before .before .before .before in
+    let o = at-loop .loop in
+    omega (arith, at-start .good, at-start .pre .1 .0, o .inv .3, o .inv .4, at-loop-test .loop-test .taken)
 
 add-id : tie.Need-add-id Inv-loop μ-loop
 add-id c = search needs
@@ -74,15 +98,21 @@ loop-less c = search needs
 
 loop-again : tie.Need-loop-again Inv-loop μ-loop
 loop-again c =
-    let o = c .before .before .before .before .before .before .before .before .before .before .before .before .loop in
-    let s = c .before .before .before .before .before .before .before .before .before .before .before .before .before .before .before .before .before .before .before in
-    let l = s .args .list .now in
-    let at = s .args .at in
+    let at-put-one = c .before .before .before .before .before .before in
+    let at-loop-test = at-put-one .before .before .before .before .before in
+    let at-loop = at-loop-test .before in
+    let at-spread-mask = at-loop .before .before in
+    let at-parts = at-spread-mask .before in
+    let at-start = at-parts .before .before .before .before .before .before in
+    let o = at-loop .loop in
+    let l = at-start .args .list .now in
+    let at = at-start .args .at in
     let n = countOf (headerAt l at) in
-    let p = c .before .before .before .before .before .before .put-one in
-    let t : 0 < o .left = c .before .before .before .before .before .before .before .before .before .before .before .loop-test .taken in
+    let p = at-put-one .put-one in
+    let t : 0 < o .left = at-loop-test .loop-test .taken in
     let k : n + 1 - (o .left - 1) ≡ n + 1 - o .left + 1 = omega (arith, o .inv .8) in
-    let e : o .id + 1 ≡ o .id + stepOf (headerAt l at) = omega (arith, s .pre .1 .1) in (
+    let e : o .id + 1 ≡ o .id + stepOf (headerAt l at) = omega (arith, at-start .pre .1 .1) in
+    let m = run-applies l at (st (o .cells) (o .fog) (o .light)) (o .left) (n + 1 - o .left) (o .id) t in (
       omega (arith, p .kept .0),
       omega (arith, p .kept .1 .0),
       omega (arith, p .kept .1 .1 .0),
@@ -93,8 +123,7 @@ loop-again c =
       omega (arith, o .inv .7),
       omega (arith, o .inv .8),
       rw k (param-later l at (n + 1 - o .left + 1) (o .j + o .next) (omega arith) (omega (arith, o .inv .3, o .inv .8))),
-      rw (p .ensures, c .before .before .before .before .before .before .before .before .before .before .before .before .before .spread-mask .ensures, o .inv .9, k, e)
-          (sym (run-applies l at (st (o .cells) (o .fog) (o .light)) (o .left) (n + 1 - o .left) (o .id) t) ∙ o .inv .10),
+      rw (p .ensures, at-spread-mask .spread-mask .ensures, at-parts .parts .ensures .1, o .inv .9, k, e) (sym m ∙ o .inv .10),
     )
 
 same-length : tie.Need-same-length Inv-loop μ-loop
@@ -108,11 +137,14 @@ same-length-3 c = search needs
 
 returns : tie.Need-returns Inv-loop μ-loop
 returns c =
-    let o = c .before .loop in
-    let s = c .before .before .before .before .before .before .before .before in
-    let l = s .args .list .now in
-    let at = s .args .at in
-    sym (run-applied l at (st (o .cells) (o .fog) (o .light)) (o .left) (countOf (headerAt l at) + 1 - o .left) (o .id) (c .loop-test .left)) ∙ o .inv .10
+    let at-loop = c .before in
+    let at-start = at-loop .before .before .before .before .before .before .before .before .before in
+    let o = at-loop .loop in
+    let l = at-start .args .list .now in
+    let at = at-start .args .at in
+    let n = countOf (headerAt l at) in
+    let d = run-applied l at (st (o .cells) (o .fog) (o .light)) (o .left) (n + 1 - o .left) (o .id) (c .loop-test .left) in
+    sym d ∙ o .inv .10
 
 pub apply-rising-spec : {M : Type 1} → statement M
 apply-rising-spec =
@@ -120,9 +152,10 @@ apply-rising-spec =
     (tie.spec
     Inv-loop
     μ-loop
-    add-h
-    mul-h
-    shared-slice-read-h
+    add-parts
+    mul-parts
+    shared-slice-read-parts
+    parts-requires
     spread-mask-requires
     add-left
     loop-holds

@@ -93,7 +93,7 @@ apply-list-requires c κs =
     let s = st (a .cells .now) (a .fog .now) (a .light .now) in
     let k = lengths s (sym (at-is-sized .is-sized .ensures) ∙ not-false _ (at-if1 .if1 .left)) in
     let v = sym (at-judge-list .judge-list .ensures) ∙ ap told (at-verdict .verdict .given .1) in
-    (k .0, k .1, k .2, verdict-accepted (a .list .now) _ v .0)
+    (k, verdict-accepted (a .list .now) _ v .0)
 
 same-length-10 : tie.Need-same-length-10
 same-length-10 c = search needs

@@ -16,10 +16,12 @@ slot-of c = c .wide .ensures ∙ rw (c .before .before .low-byte .ensures .0, c 
 small : (c : tie.After-wide) → c .wide .result < 66
 small c = rw (slot-of c) (slot-small (c .before .before .before .args .id % 256) (omega arith))
 
-id-of : (c : tie.After-wide) → idAt (c .before .before .before .args .id) ≡ getD (c .before .before .before .args .held .now) (2 * c .wide .result) 0
+id-of : (c : tie.After-wide)
+    → idAt (c .before .before .before .args .id) ≡ getD (c .before .before .before .args .held .now) (2 * c .wide .result) 0
 id-of c = rw (c .before .before .before .pre .1, slot-of c)
 
-bits-of : (c : tie.After-wide) → bitsAt (c .before .before .before .args .id) ≡ getD (c .before .before .before .args .held .now) (2 * c .wide .result + 1) 0
+bits-of : (c : tie.After-wide)
+    → bitsAt (c .before .before .before .args .id) ≡ getD (c .before .before .before .args .held .now) (2 * c .wide .result + 1) 0
 bits-of c = rw (c .before .before .before .pre .1, slot-of c)
 
 low-byte-requires : tie.Need-low-byte-requires

@@ -1,6 +1,7 @@
 -- Each way out is one case of `put`. Assumes nothing.
 use mathlib.Core.Path.{_≡_, sym, _∙_}
 use native.Mathlib.Omega.{arith}
+use Rattle.registers.specs.State.{st}
 use Rattle.registers.specs.Held.{bitsOf}
 use Rattle.registers.proofs.Lookup.{Has, held-has}
 use Rattle.registers.proofs.Puts.{put-held, put-fog-data, put-light-data, put-free}
@@ -41,7 +42,9 @@ same-length c = search needs
 returns : tie.Need-returns
 returns c =
     let a = c .before .before .before .before .before .before .before .args in
-    rw (put-held _ (a .id) (a .bytes) (a .value) (some (c .before .before)), c .merged .ensures, c .before .before .before .bits-held .ensures)
+    let s = st (a .cells .now) (a .fog .now) (a .light .now) in
+    let p = put-held s (a .id) (a .bytes) (a .value) (some (c .before .before)) in
+    rw (p, c .merged .ensures, c .before .before .before .bits-held .ensures)
 
 put-fog-requires : tie.Need-put-fog-requires
 put-fog-requires c κs = search needs
@@ -54,7 +57,9 @@ same-length-3 c = search needs
 
 returns-2 : tie.Need-returns-2
 returns-2 c =
-    rw (put-fog-data _ _ _ _ (c .before .before .before .before .before .before .before .if2 .taken), c .before .before .before .before .put-fog .ensures .0, c .before .before .before .before .put-fog .ensures .1)
+    let at-put-fog = c .before .before .before .before in
+    let at-if2 = at-put-fog .before .before .before in
+    rw (put-fog-data _ _ _ _ (at-if2 .if2 .taken), at-put-fog .put-fog .ensures .0, at-put-fog .put-fog .ensures .1)
 
 put-light-requires : tie.Need-put-light-requires
 put-light-requires c κs = search needs
@@ -67,12 +72,18 @@ same-length-5 c = search needs
 
 returns-3 : tie.Need-returns-3
 returns-3 c =
-    rw (put-light-data _ _ _ _ (c .before .before .before .before .before .before .before .before .if2 .left) (c .before .before .before .before .before .before .before .if3 .taken), c .before .before .before .before .put-light .ensures .0, c .before .before .before .before .put-light .ensures .1)
+    let at-put-light = c .before .before .before .before in
+    let at-if3 = at-put-light .before .before .before in
+    let a = at-if3 .before .before .before .before .before .before .before .args in
+    let s = st (a .cells .now) (a .fog .now) (a .light .now) in
+    let p = put-light-data s (a .id) (a .bytes) (a .value) (at-if3 .before .if2 .left) (at-if3 .if3 .taken) in
+    rw (p, at-put-light .put-light .ensures .0, at-put-light .put-light .ensures .1)
 
 returns-4 : tie.Need-returns-4
 returns-4 c =
     let a = c .before .before .before .before .before .before .before .args in
-    sym (put-free _ (a .id) (a .bytes) (a .value) (c .before .if2 .left) (c .if3 .left) (sym (c .before .before .before .bits-held .ensures) ∙ c .before .before .if1 .left))
+    let z = sym (c .before .before .before .bits-held .ensures) ∙ c .before .before .if1 .left in
+    sym (put-free _ (a .id) (a .bytes) (a .value) (c .before .if2 .left) (c .if3 .left) z)
 
 pub put-one-spec : {M : Type 1} → statement M
 put-one-spec =

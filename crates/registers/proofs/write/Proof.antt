@@ -95,7 +95,7 @@ put-one-requires c κs =
     let a = at-start .args in
     let s = st (a .cells .now) (a .fog .now) (a .light .now) in
     let k = lengths s (sym (at-is-sized .is-sized .ensures) ∙ not-false _ (at-if1 .if1 .left)) in
-    (k .0, k .1, k .2, at-slot-table .slot-table .ensures, at-held-table .held-table .ensures)
+    (k, (at-slot-table .slot-table .ensures, at-held-table .held-table .ensures))
 
 same-length-10 : tie.Need-same-length-10
 same-length-10 c = search needs
