@@ -97,11 +97,11 @@ uint64_t pica_pack(const uint32_t *ids, size_t n, const uint32_t *masks, size_t 
     return call(PACK, (struct buffer[LENT]){{(uint32_t *)ids, n, 0}, {(uint32_t *)masks, m, 0}, {(uint32_t *)values, k, 0}, {space, room, 1}}, NULL);
 }
 
-uint64_t pica_decode(const uint32_t *cells, size_t n, const uint32_t *fog, size_t m, const uint32_t *light, size_t k, uint32_t fields[PICA_FIELDS]) {
-    return call(DECODE, (struct buffer[LENT]){STATE(0), {fields, PICA_FIELDS, 1}}, NULL);
+uint64_t pica_decode(const uint32_t *cells, size_t n, const uint32_t *fog, size_t m, const uint32_t *light, size_t k, uint32_t fields[PICA_FIELDS_LENGTH]) {
+    return call(DECODE, (struct buffer[LENT]){STATE(0), {fields, PICA_FIELDS_LENGTH, 1}}, NULL);
 }
 
-uint64_t pica_fragment(const uint32_t *cells, size_t n, const uint32_t *fog, size_t m, const uint32_t *light, size_t k, const uint32_t given[PICA_GIVEN],
-                       uint32_t stored[PICA_STORED]) {
-    return call(FRAGMENT, (struct buffer[LENT]){STATE(0), {(uint32_t *)given, PICA_GIVEN, 0}, {stored, PICA_STORED, 1}}, NULL);
+uint64_t pica_fragment(const uint32_t *cells, size_t n, const uint32_t *fog, size_t m, const uint32_t *light, size_t k, const uint32_t given[PICA_GIVEN_LENGTH],
+                       uint32_t stored[PICA_STORED_LENGTH]) {
+    return call(FRAGMENT, (struct buffer[LENT]){STATE(0), {(uint32_t *)given, PICA_GIVEN_LENGTH, 0}, {stored, PICA_STORED_LENGTH, 1}}, NULL);
 }
