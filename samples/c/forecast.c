@@ -1,5 +1,6 @@
 /*
- * Judges a captured list, shows what it sets, forecasts the length of a packed run, and draws one fragment with the state that the list leaves.
+ * Judges a captured list, shows what it sets, forecasts the length of a packed run, and draws one fragment with the state that
+ * the list leaves.
  *
  *     forecast FILE        FILE holds the list's words, four bytes a word, the lowest byte first
  *

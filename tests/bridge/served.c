@@ -1,6 +1,7 @@
 /*
- * The program that links the real library, for x86-64, and runs under an emulator: for each byte on standard input it makes the call that stands
- * in the shared memory, and says so by a byte on standard output. It has no C library, so that a cross compiler alone builds it.
+ * The program that links the real library, for x86-64, and runs under an emulator: for each byte on standard input it makes the
+ * call that stands in the shared memory, and says so by a byte on standard output. It has no C library, so that a cross compiler
+ * alone builds it.
  */
 #include <stddef.h>
 
