@@ -5,10 +5,10 @@
 #include "plain.h"
 
 struct state {
-    uint32_t cells[PICA_CELLS], fog[PICA_FOG_ENTRIES], light[PICA_LIGHT_ENTRIES];
+    uint32_t cells[PICA_CELLS_LENGTH], fog[PICA_FOG_LENGTH], light[PICA_LIGHT_LENGTH];
 };
 
-#define LENT(s) (s)->cells, PICA_CELLS, (s)->fog, PICA_FOG_ENTRIES, (s)->light, PICA_LIGHT_ENTRIES
+#define LENT(s) (s)->cells, PICA_CELLS_LENGTH, (s)->fog, PICA_FOG_LENGTH, (s)->light, PICA_LIGHT_LENGTH
 
 /* The proved library and the plain version are called through the same table, so that the way of calling costs both the same. */
 struct library {
@@ -24,12 +24,12 @@ extern const struct library ours, plain;
 /* Room for one word too many, and for one write. */
 struct list {
     size_t length;
-    uint32_t words[PICA_MOST_WORDS + 1];
+    uint32_t words[PICA_LIST_LENGTH_MOST + 1];
 };
 
 struct run {
     size_t length;
-    uint32_t ids[PICA_MOST_WRITES + 1], masks[PICA_MOST_WRITES + 1], values[PICA_MOST_WRITES + 1];
+    uint32_t ids[PICA_RUN_LENGTH_MOST + 1], masks[PICA_RUN_LENGTH_MOST + 1], values[PICA_RUN_LENGTH_MOST + 1];
 };
 
 /* make.c: numbers that look random and are the same in every run, and what is built from them. */
@@ -42,7 +42,7 @@ void command(struct list *list, uint32_t id, uint32_t mask, uint32_t writes, uin
 void idle_stage(uint32_t *registers);
 void valid_cells(uint32_t *cells);
 void mixed_tests(uint32_t *cells);
-void valid_given(uint32_t given[PICA_GIVEN], const uint32_t *cells);
+void valid_given(uint32_t given[PICA_GIVEN_LENGTH], const uint32_t *cells);
 
 /* work.c: the workloads. */
 void short_held(struct list *list, size_t words);
@@ -65,9 +65,9 @@ enum { CALLS = 4096 }; /* of a round, where a call is a decoding or a fragment *
 
 struct side {
     struct state state;
-    uint32_t space[2 * PICA_MOST_WRITES];
-    uint32_t fields[PICA_FIELDS];
-    uint32_t stored[CALLS][PICA_STORED];
+    uint32_t space[2 * PICA_RUN_LENGTH_MOST];
+    uint32_t fields[PICA_FIELDS_LENGTH];
+    uint32_t stored[CALLS][PICA_STORED_LENGTH];
     uint64_t answers[CALLS]; /* of the last calls */
 };
 

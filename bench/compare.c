@@ -38,17 +38,17 @@ static int all_met(void) {
 }
 
 static void new_states(void) {
-    fill(left_by_ours.cells, PICA_CELLS);
-    fill(left_by_ours.fog, PICA_FOG_ENTRIES);
-    fill(left_by_ours.light, PICA_LIGHT_ENTRIES);
+    fill(left_by_ours.cells, PICA_CELLS_LENGTH);
+    fill(left_by_ours.fog, PICA_FOG_LENGTH);
+    fill(left_by_ours.light, PICA_LIGHT_LENGTH);
     left_by_plain = left_by_ours;
 }
 
 /* The three lengths of a state; in one case of 64 one of them is shorter than it has to be, and still true. */
 static void lengths(size_t to[3]) {
-    to[0] = PICA_CELLS;
-    to[1] = PICA_FOG_ENTRIES;
-    to[2] = PICA_LIGHT_ENTRIES;
+    to[0] = PICA_CELLS_LENGTH;
+    to[1] = PICA_FOG_LENGTH;
+    to[2] = PICA_LIGHT_LENGTH;
     if (below(64) == 0) to[below(3)] -= 1 + below(8);
 }
 
@@ -91,7 +91,7 @@ static void random_list(struct list *list) {
         list->words[at + 1] |= below(8) << 28; /* any unused bits are accepted */
     }
     if (below(16) == 0 && list->length > 0) list->length -= 1 + below(list->length < 4 ? 1 : 3);
-    if (below(1000) == 0) list->length = PICA_MOST_WORDS + below(2); /* whatever stands there */
+    if (below(1000) == 0) list->length = PICA_LIST_LENGTH_MOST + below(2); /* whatever stands there */
 }
 
 static int compare_reads(void) {
@@ -126,7 +126,7 @@ static int compare_writes(void) {
 /* Mostly short; the long ones have stretches beyond the 256 writes that a command can carry. */
 static void random_run(struct run *run) {
     uint32_t id = edge_id() % 0x240, mask = 15, turn = below(16) ? 4 : 400;
-    run->length = below(64) ? below(64) : below(8) ? below(2000) : PICA_MOST_WRITES - 1 + below(3);
+    run->length = below(64) ? below(64) : below(8) ? below(2000) : PICA_RUN_LENGTH_MOST - 1 + below(3);
     uint32_t rises = below(2);
     for (size_t k = 0; k < run->length; k++) {
         if (below(turn) == 0) rises = below(2);
@@ -148,8 +148,8 @@ static void random_run(struct run *run) {
 
 static int compare_packs(void) {
     static struct run run;
-    static uint32_t spaces[2][2 * PICA_MOST_WRITES + 8];
-    fill(spaces[0], 2 * PICA_MOST_WRITES + 8);
+    static uint32_t spaces[2][2 * PICA_RUN_LENGTH_MOST + 8];
+    fill(spaces[0], 2 * PICA_RUN_LENGTH_MOST + 8);
     memcpy(spaces[1], spaces[0], sizeof spaces[0]);
     for (unsigned k = 0; k < PACKS; k++) {
         random_run(&run);
@@ -180,7 +180,7 @@ static void idle_stages(uint32_t *cells) {
 }
 
 /* Mostly a state that can be drawn with, often with idle stages; else up to three registers or one depth are random, or a single bit of them. */
-static void random_state(struct state *s, uint32_t given[PICA_GIVEN]) {
+static void random_state(struct state *s, uint32_t given[PICA_GIVEN_LENGTH]) {
     valid_cells(s->cells);
     if (below(2)) s->cells[0x107] |= 0x1F00; /* without it few fragments write a whole colour */
     if (below(2)) idle_stages(s->cells);
@@ -194,7 +194,7 @@ static void random_state(struct state *s, uint32_t given[PICA_GIVEN]) {
 }
 
 static int compare_states(void) {
-    uint32_t given[PICA_GIVEN], fields[2][PICA_FIELDS] = {{0}}, stored[2][PICA_STORED] = {{0}};
+    uint32_t given[PICA_GIVEN_LENGTH], fields[2][PICA_FIELDS_LENGTH] = {{0}}, stored[2][PICA_STORED_LENGTH] = {{0}};
     size_t n[3];
     struct state *s = &left_by_ours;
     for (unsigned k = 0; k < STATES; k++) {

@@ -68,7 +68,7 @@ void idle_stage(uint32_t *r) {
 
 /* A state that a fragment can be drawn with; all else in it is random, the bits that no register holds too. */
 void valid_cells(uint32_t *cells) {
-    fill(cells, PICA_CELLS);
+    fill(cells, PICA_CELLS_LENGTH);
     for (uint32_t b = 0xC0; b <= 0xF8; b += 8)
         if (b != 0xE0 && b != 0xE8) valid_stage(&cells[b]);
     cells[0xE0] &= ~UINT32_C(7);
@@ -91,9 +91,9 @@ void mixed_tests(uint32_t *cells) {
 }
 
 /* Depths that the state's format allows; often equal, so that every comparison has both answers. */
-void valid_given(uint32_t given[PICA_GIVEN], const uint32_t *cells) {
+void valid_given(uint32_t given[PICA_GIVEN_LENGTH], const uint32_t *cells) {
     uint32_t depths = cells[0x116] & 3 ? 0x1000000 : 0x10000;
-    fill(given, PICA_GIVEN);
+    fill(given, PICA_GIVEN_LENGTH);
     given[PICA_GIVEN_INCOMING_DEPTH] = below(depths);
     given[PICA_GIVEN_STORED_DEPTH] = below(4) ? below(depths) : given[PICA_GIVEN_INCOMING_DEPTH];
 }

@@ -11,15 +11,15 @@ uint64_t plain_write(uint32_t *cells, size_t cells_length, uint32_t *fog, size_t
 uint64_t plain_pack(const uint32_t *ids, size_t ids_length, const uint32_t *masks, size_t masks_length, const uint32_t *values, size_t values_length,
                     uint32_t *space, size_t space_length);
 uint64_t plain_decode(const uint32_t *cells, size_t cells_length, const uint32_t *fog, size_t fog_length, const uint32_t *light, size_t light_length,
-                      uint32_t fields[PICA_FIELDS]);
+                      uint32_t fields[PICA_FIELDS_LENGTH]);
 uint64_t plain_fragment(const uint32_t *cells, size_t cells_length, const uint32_t *fog, size_t fog_length, const uint32_t *light,
-                        size_t light_length, const uint32_t given[PICA_GIVEN], uint32_t stored[PICA_STORED]);
+                        size_t light_length, const uint32_t given[PICA_GIVEN_LENGTH], uint32_t stored[PICA_STORED_LENGTH]);
 
 /* Shared by the parts of the plain version. */
 static inline uint64_t plain_refused(uint32_t number, uint32_t place) { return (uint64_t)number << 32 | place; }
 
 static inline int plain_is_sized(size_t cells, size_t fog, size_t light) {
-    return cells == PICA_CELLS && fog == PICA_FOG_ENTRIES && light == PICA_LIGHT_ENTRIES;
+    return cells == PICA_CELLS_LENGTH && fog == PICA_FOG_LENGTH && light == PICA_LIGHT_LENGTH;
 }
 
 /* The number of the fault of a write, 0 where it is allowed. */

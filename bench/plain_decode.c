@@ -45,7 +45,7 @@ static inline uint64_t some_refused(const uint32_t *cells) {
 }
 
 uint64_t plain_decode(const uint32_t *cells, size_t cells_length, const uint32_t *fog, size_t fog_length, const uint32_t *light, size_t light_length,
-                      uint32_t fields[PICA_FIELDS]) {
+                      uint32_t fields[PICA_FIELDS_LENGTH]) {
     (void)fog, (void)light;
     if (!plain_is_sized(cells_length, fog_length, light_length)) return plain_refused(PICA_BUFFER_LENGTH, 0);
     if (some_refused(cells)) return plain_refused(PICA_CODE_WITHOUT_NAME, plain_unnamed(cells));

@@ -204,7 +204,7 @@ static uint32_t judge(const uint32_t *cells, uint32_t alpha, const uint32_t *giv
 }
 
 uint64_t plain_fragment(const uint32_t *cells, size_t cells_length, const uint32_t *fog, size_t fog_length, const uint32_t *light,
-                        size_t light_length, const uint32_t given[PICA_GIVEN], uint32_t stored[PICA_STORED]) {
+                        size_t light_length, const uint32_t given[PICA_GIVEN_LENGTH], uint32_t stored[PICA_STORED_LENGTH]) {
     (void)fog, (void)light;
     if (!plain_is_sized(cells_length, fog_length, light_length)) return plain_refused(PICA_BUFFER_LENGTH, 0);
     if (some_refused(cells)) return state_refused(cells);

@@ -4,7 +4,7 @@
 #define STAGE(b) [b] = 0xFFF0FFF, [b + 1] = 0x777FFF, [b + 2] = 0xF000F, [b + 3] = 0xFFFFFFFF, [b + 4] = 0x30003
 
 /* The bits that each register holds; no bit for a register that isn't held. */
-static const uint32_t held[PICA_CELLS] = {
+static const uint32_t held[PICA_CELLS_LENGTH] = {
     [0x40] = 3,
     [0x41] = 0xFFFFFF, [0x42] = 0xFFFFFFFF, [0x43] = 0xFFFFFF, [0x44] = 0xFFFFFFFF,
     [0x47] = 1, [0x48] = 0xFFFFFF, [0x49] = 0xFFFFFF, [0x4A] = 0xFFFFFF, [0x4B] = 0xFFFFFF,
@@ -158,7 +158,7 @@ static void apply(uint32_t *restrict cells, uint32_t *restrict fog, uint32_t *re
 uint64_t plain_read(uint32_t *cells, size_t cells_length, uint32_t *fog, size_t fog_length, uint32_t *light, size_t light_length,
                     const uint32_t *list, size_t list_length) {
     if (!plain_is_sized(cells_length, fog_length, light_length)) return plain_refused(PICA_BUFFER_LENGTH, 0);
-    if (list_length > PICA_MOST_WORDS) return plain_refused(PICA_LIST_TOO_LONG, 0);
+    if (list_length > PICA_LIST_LENGTH_MOST) return plain_refused(PICA_LIST_TOO_LONG, 0);
     uint64_t answer = judge(list, list_length);
     if (pica_number(answer) == 0) apply(cells, fog, light, list, list + list_length);
     return answer;

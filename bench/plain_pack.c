@@ -44,7 +44,7 @@ static void find_links(const uint32_t *restrict ids, const uint32_t *restrict ma
  * two costs two words more than what follows its first write: a second write goes in the padding's place, or it is cut off.
  */
 static uint32_t plan(const uint8_t *restrict links, uint32_t count, uint16_t *restrict take) {
-    uint16_t costs[PICA_MOST_WRITES];
+    uint16_t costs[PICA_RUN_LENGTH_MOST];
     uint32_t next = 0, after = 0;                     /* the costs from the next write on, and from the one after it */
     uint32_t kind = APART, run = 0, end = 0, cut = 0; /* of the run that begins here: its writes, the cost after it, whether it may end one earlier */
     for (uint32_t k = count; k-- > 0;) {
@@ -89,10 +89,10 @@ static void lay_out(const uint32_t *restrict ids, const uint32_t *restrict masks
 uint64_t plain_pack(const uint32_t *ids, size_t ids_length, const uint32_t *masks, size_t masks_length, const uint32_t *values, size_t values_length,
                     uint32_t *space, size_t space_length) {
     if (ids_length != masks_length || ids_length != values_length) return plain_refused(PICA_LENGTHS_DIFFER, 0);
-    if (ids_length > PICA_MOST_WRITES) return plain_refused(PICA_TOO_MANY_WRITES, 0);
+    if (ids_length > PICA_RUN_LENGTH_MOST) return plain_refused(PICA_TOO_MANY_WRITES, 0);
     if (any_fails(ids, masks, ids_length)) return refused(ids, masks);
-    uint8_t links[PICA_MOST_WRITES];
-    uint16_t take[PICA_MOST_WRITES];
+    uint8_t links[PICA_RUN_LENGTH_MOST];
+    uint16_t take[PICA_RUN_LENGTH_MOST];
     find_links(ids, masks, ids_length, links);
     uint32_t words = plan(links, (uint32_t)ids_length, take);
     if (words > space_length) return plain_refused(PICA_NO_ROOM, words);

@@ -38,10 +38,10 @@ const size_t workload_count = sizeof workloads / sizeof workloads[0];
 /* What is handed in, the same to both: lists one after another, runs one after another, and few states, which stay near the processor. */
 enum { STATES = 256 };
 static struct list list;
-static struct { uint32_t ids[4 * PICA_MOST_WRITES], masks[4 * PICA_MOST_WRITES], values[4 * PICA_MOST_WRITES]; } writes;
-static uint32_t cells[STATES][PICA_CELLS], given[CALLS][PICA_GIVEN];
+static struct { uint32_t ids[4 * PICA_RUN_LENGTH_MOST], masks[4 * PICA_RUN_LENGTH_MOST], values[4 * PICA_RUN_LENGTH_MOST]; } writes;
+static uint32_t cells[STATES][PICA_CELLS_LENGTH], given[CALLS][PICA_GIVEN_LENGTH];
 static uint8_t state_of[CALLS];
-static uint32_t fog[PICA_FOG_ENTRIES], light[PICA_LIGHT_ENTRIES];
+static uint32_t fog[PICA_FOG_LENGTH], light[PICA_LIGHT_LENGTH];
 
 static void make_lists(const struct workload *w) {
     static struct list part;
@@ -88,15 +88,15 @@ static void one_round(const struct workload *w, const struct library *l, struct 
         break;
     case PACK:
         for (size_t k = 0; k < w->times; k++)
-            s->answers[k % CALLS] = l->pack(&writes.ids[k * n], n, &writes.masks[k * n], n, &writes.values[k * n], n, s->space, 2 * PICA_MOST_WRITES);
+            s->answers[k % CALLS] = l->pack(&writes.ids[k * n], n, &writes.masks[k * n], n, &writes.values[k * n], n, s->space, 2 * PICA_RUN_LENGTH_MOST);
         break;
     case DECODE:
         for (size_t k = 0; k < CALLS; k++)
-            s->answers[k] = l->decode(cells[state_of[k]], PICA_CELLS, fog, PICA_FOG_ENTRIES, light, PICA_LIGHT_ENTRIES, s->fields);
+            s->answers[k] = l->decode(cells[state_of[k]], PICA_CELLS_LENGTH, fog, PICA_FOG_LENGTH, light, PICA_LIGHT_LENGTH, s->fields);
         break;
     case FRAGMENT:
         for (size_t k = 0; k < CALLS; k++)
-            s->answers[k] = l->fragment(cells[state_of[k]], PICA_CELLS, fog, PICA_FOG_ENTRIES, light, PICA_LIGHT_ENTRIES, given[k], s->stored[k]);
+            s->answers[k] = l->fragment(cells[state_of[k]], PICA_CELLS_LENGTH, fog, PICA_FOG_LENGTH, light, PICA_LIGHT_LENGTH, given[k], s->stored[k]);
         break;
     }
 }

@@ -3,18 +3,42 @@
  *
  * Link libcapi.a, which is for x86-64 Linux and needs nothing but the C library.
  *
- * ANSWERS. Each function answers one 64-bit number. Its high 32 bits are 0 where the call was answered, else the number of the refusal; its low 32 bits
- * are the answer, or the refusal's place. pica_number() and pica_value() take it apart. A place that is given no meaning below is 0.
+ * ANSWERS. Each function answers one 64-bit number. Its high 32 bits are 0 where the call was answered, else the number of the
+ * refusal; its low 32 bits are the answer, or the refusal's place. pica_number() and pica_value() take it apart. A place that is
+ * given no meaning below is 0.
  *
- * BUFFERS. Each buffer is a pointer to 32-bit words, with its length in words where the length is not fixed. All of them belong to the caller: the
- * library keeps nothing between calls and allocates nothing. The functions ask only that the pointers and lengths are true:
- *   - a pointer is aligned for uint32_t and not null. For a length of 0 any such pointer will do;
+ * BUFFERS. Each buffer is a pointer to 32-bit words, with its length in words where the length is not fixed. All of them belong to
+ * the caller: the library keeps nothing between calls and allocates nothing. The functions ask only that the pointers and lengths
+ * are true:
+ *   - a pointer is aligned for uint32_t, and its length's words are there. For a length of 0 any pointer will do, null too, as an
+ *     empty std::vector may give it; the buffers whose length is fixed, fields, given and stored, are never null;
  *   - a buffer that a call writes to overlaps no other that it is lent.
  * Everything else is answered or refused, whatever the words are. A refused call changes no buffer.
  *
- * A STATE is three buffers: 768 register cells (the cell of register i is cells[i]), 128 fog entries, and 6,144 light entries (entry k of table t is
- * light[256 * t + k]). Of a cell only the bits that the register holds count, of an entry only the low 24; all other bits are never read and never
- * changed. A state of zeros is a state like any other.
+ * A STATE is three buffers: 768 register cells (the cell of register i is cells[i]), 128 fog entries, and 6,144 light entries
+ * (entry k of table t is light[256 * t + k]). Of a cell only the bits that the register holds count, of an entry only the low 24;
+ * all other bits are never read and never changed. A state of zeros is a state like any other.
+ *
+ * A LIST is a row of words: commands, one after another, that fill it. The empty list is a list too. A command is
+ *
+ *     word 0         its first parameter
+ *     word 1         its header
+ *     words 2 ..     its extra parameters, as many as the header says
+ *     one word more  as padding, where the words so far are odd in number, so that each command starts at an even index. Any value
+ *                    is accepted; pica_pack writes 0
+ *
+ * and its header
+ *
+ *     bits 0-15      the id of a register, 000h to 2FFh
+ *     bits 16-19     the mask. Each bit stands for a byte of every parameter, bit 16 for the lowest; a byte whose bit is 0 is not
+ *                    written
+ *     bits 20-27     the number of extra parameters, 0 to 255
+ *     bits 28-30     unused. Any value is accepted; pica_pack writes 0
+ *     bit 31         consecutive: where it is 1 each parameter goes to the id after the one before, else all go to the same id
+ *
+ * So a command is one write (id, mask, value) for each of its parameters, in their order: AAAAAAAA 802F011C BBBBBBBB CCCCCCCC are
+ * three, to 11C, 11D and 11E, and 1 001F0041 2 0 are two, both to 41, with a padding word. A word is a number and not four bytes:
+ * where a capture is a file with the lowest byte first, put its words together so (samples/c/forecast.c has load()).
  *
  * Calls may run at the same time as long as none of them writes a buffer that another one is lent.
  */
@@ -28,17 +52,26 @@
 extern "C" {
 #endif
 
-/* Lengths, in words. */
-#define PICA_CELLS 768
-#define PICA_FOG_ENTRIES 128
-#define PICA_LIGHT_ENTRIES 6144
-#define PICA_FIELDS 204
-#define PICA_GIVEN 11
-#define PICA_STORED 3
+/*
+ * The version of this header and of the library that is built beside it: MAJOR.MINOR.PATCH, and one number to compare, so that
+ * #if PICA_VERSION >= 1002 asks for 0.1.2 or a later one.
+ */
+#define PICA_VERSION_MAJOR 0
+#define PICA_VERSION_MINOR 1
+#define PICA_VERSION_PATCH 0
+#define PICA_VERSION (PICA_VERSION_MAJOR * 1000000 + PICA_VERSION_MINOR * 1000 + PICA_VERSION_PATCH)
 
-/* Limits: the words of a list that is read, the writes of a run that is packed. */
-#define PICA_MOST_WORDS 65536
-#define PICA_MOST_WRITES 4096
+/* The lengths that buffers must have, in words: a state's three, and those that are fixed. */
+#define PICA_CELLS_LENGTH 768
+#define PICA_FOG_LENGTH 128
+#define PICA_LIGHT_LENGTH 6144
+#define PICA_FIELDS_LENGTH 204
+#define PICA_GIVEN_LENGTH 11
+#define PICA_STORED_LENGTH 3
+
+/* The greatest lengths: of a list that is read, in words, and of a run that is packed, in writes. */
+#define PICA_LIST_LENGTH_MOST 65536
+#define PICA_RUN_LENGTH_MOST 4096
 
 /* The refusals. Number 11 is not used. */
 enum pica_refusal {
@@ -94,24 +127,26 @@ uint64_t pica_read(uint32_t *cells, size_t cells_length, uint32_t *fog, size_t f
  * Refuses, in this order and each at 0: 6, 9, 3, 4, 5.
  * cells, fog, light: changed as the write says; on a refusal as they were.
  */
-uint64_t pica_write(uint32_t *cells, size_t cells_length, uint32_t *fog, size_t fog_length, uint32_t *light, size_t light_length, uint32_t id,
-                    uint32_t mask, uint32_t value);
+uint64_t pica_write(uint32_t *cells, size_t cells_length, uint32_t *fog, size_t fog_length, uint32_t *light, size_t light_length,
+                    uint32_t id, uint32_t mask, uint32_t value);
 
 /*
- * Packs a run of writes into the shortest list there is: write k sets the bytes masks[k] of register ids[k] to those of values[k]. Among the shortest
- * lists it is the one whose first command carries the most writes, then its second, and so on. It is never longer than two words a write.
+ * Packs a run of writes into the shortest list that says it: write k sets the bytes masks[k] of register ids[k] to those of
+ * values[k]. Among the shortest lists it is the one whose first command carries the most writes, then its second, and so on. It is
+ * never longer than two words a write.
  *
  * Answers the words of the list.
  * Refuses, in this order:
  *   7   at 0
  *   8   at 0
  *   then for each write in turn, with its index as place: 9, 3, 4 or 5
- *   10  with the words needed as place. So a call with space_length 0 asks for the length of the list; an empty run is answered with 0.
+ *   10  with the words needed as place. So a call with NULL and 0 for the space asks for the list's length; an empty run is
+ *       answered with 0.
  * ids, masks, values: only read.
  * space: the list stands at its start, and past the list it keeps its contents; on a refusal it is as it was.
  */
-uint64_t pica_pack(const uint32_t *ids, size_t ids_length, const uint32_t *masks, size_t masks_length, const uint32_t *values, size_t values_length,
-                   uint32_t *space, size_t space_length);
+uint64_t pica_pack(const uint32_t *ids, size_t ids_length, const uint32_t *masks, size_t masks_length, const uint32_t *values,
+                   size_t values_length, uint32_t *space, size_t space_length);
 
 /*
  * Decodes a state into its 204 fields, in the order of enum pica_field.
@@ -123,8 +158,8 @@ uint64_t pica_pack(const uint32_t *ids, size_t ids_length, const uint32_t *masks
  * cells, fog, light: only read.
  * fields: all 204 are set; on a refusal they are as they were.
  */
-uint64_t pica_decode(const uint32_t *cells, size_t cells_length, const uint32_t *fog, size_t fog_length, const uint32_t *light, size_t light_length,
-                     uint32_t fields[PICA_FIELDS]);
+uint64_t pica_decode(const uint32_t *cells, size_t cells_length, const uint32_t *fog, size_t fog_length, const uint32_t *light,
+                     size_t light_length, uint32_t fields[PICA_FIELDS_LENGTH]);
 
 /*
  * Tells what one fragment leaves in the framebuffer.
@@ -133,14 +168,14 @@ uint64_t pica_decode(const uint32_t *cells, size_t cells_length, const uint32_t 
  * Refuses, in this order:
  *   6   at 0
  *   13  with the lowest id of a register that holds a code without a name as place
- *   14  with the lowest id of a register that asks for what is not built as place: E0h fog mode not 0; 100h mode not 0, or bit 8, 24 or 25 set; 117h not
- *       size 2 with format 0
+ *   14  with the lowest id of a register that asks for what is not built as place: E0h fog mode not 0; 100h mode not 0, or bit 8,
+ *       24 or 25 set; 117h not size 2 with format 0
  *   12  at 0 for the incoming depth, then at 1 for the stored one
  * cells, fog, light, given: only read. given is laid out by enum pica_given.
  * stored: by enum pica_stored what is then stored, for any verdict; on a refusal it is as it was.
  */
-uint64_t pica_fragment(const uint32_t *cells, size_t cells_length, const uint32_t *fog, size_t fog_length, const uint32_t *light, size_t light_length,
-                       const uint32_t given[PICA_GIVEN], uint32_t stored[PICA_STORED]);
+uint64_t pica_fragment(const uint32_t *cells, size_t cells_length, const uint32_t *fog, size_t fog_length, const uint32_t *light,
+                       size_t light_length, const uint32_t given[PICA_GIVEN_LENGTH], uint32_t stored[PICA_STORED_LENGTH]);
 
 /* What a fragment is given. A colour has red in its low byte, then green, blue and alpha. Of the stencil only the low 8 bits count. */
 enum pica_given {
@@ -165,17 +200,19 @@ enum pica_stored {
 };
 
 /* The fields of one stage, by its registers: source, operand, combiner, colour, scale. */
-#define PICA_FIELDS_OF_STAGE_(stage)                                                                                                                \
-    PICA_FIELD_##stage##_SOURCE_RGB0, PICA_FIELD_##stage##_SOURCE_RGB1, PICA_FIELD_##stage##_SOURCE_RGB2, PICA_FIELD_##stage##_SOURCE_ALPHA0,       \
-    PICA_FIELD_##stage##_SOURCE_ALPHA1, PICA_FIELD_##stage##_SOURCE_ALPHA2, PICA_FIELD_##stage##_OPERAND_RGB0, PICA_FIELD_##stage##_OPERAND_RGB1,   \
-    PICA_FIELD_##stage##_OPERAND_RGB2, PICA_FIELD_##stage##_OPERAND_ALPHA0, PICA_FIELD_##stage##_OPERAND_ALPHA1,                                    \
-    PICA_FIELD_##stage##_OPERAND_ALPHA2, PICA_FIELD_##stage##_COMBINER_RGB, PICA_FIELD_##stage##_COMBINER_ALPHA, PICA_FIELD_##stage##_COLOUR_RED,   \
-    PICA_FIELD_##stage##_COLOUR_GREEN, PICA_FIELD_##stage##_COLOUR_BLUE, PICA_FIELD_##stage##_COLOUR_ALPHA, PICA_FIELD_##stage##_SCALE_RGB,         \
-    PICA_FIELD_##stage##_SCALE_ALPHA
+#define PICA_FIELDS_OF_STAGE_(stage)                                                                               \
+    PICA_FIELD_##stage##_SOURCE_RGB0, PICA_FIELD_##stage##_SOURCE_RGB1, PICA_FIELD_##stage##_SOURCE_RGB2,          \
+    PICA_FIELD_##stage##_SOURCE_ALPHA0, PICA_FIELD_##stage##_SOURCE_ALPHA1, PICA_FIELD_##stage##_SOURCE_ALPHA2,    \
+    PICA_FIELD_##stage##_OPERAND_RGB0, PICA_FIELD_##stage##_OPERAND_RGB1, PICA_FIELD_##stage##_OPERAND_RGB2,       \
+    PICA_FIELD_##stage##_OPERAND_ALPHA0, PICA_FIELD_##stage##_OPERAND_ALPHA1, PICA_FIELD_##stage##_OPERAND_ALPHA2, \
+    PICA_FIELD_##stage##_COMBINER_RGB, PICA_FIELD_##stage##_COMBINER_ALPHA,                                        \
+    PICA_FIELD_##stage##_COLOUR_RED, PICA_FIELD_##stage##_COLOUR_GREEN,                                            \
+    PICA_FIELD_##stage##_COLOUR_BLUE, PICA_FIELD_##stage##_COLOUR_ALPHA,                                           \
+    PICA_FIELD_##stage##_SCALE_RGB, PICA_FIELD_##stage##_SCALE_ALPHA
 
 /*
- * The decoded fields, ids ascending and then lowest bit first. Each is the unsigned number that its bits hold; only the two of 68h are signed, -512..511
- * in two's complement.
+ * The decoded fields, ids ascending and then lowest bit first. Each is the unsigned number that its bits hold; only the two of 68h
+ * are signed, -512..511 in two's complement.
  */
 enum pica_field {
     PICA_FIELD_CULLING = 0,     /* 40 */
@@ -277,7 +314,7 @@ enum pica_field {
     PICA_FIELD_LIGHT_PORT_INDEX, /* 1C5 */
     PICA_FIELD_LIGHT_PORT_TABLE,
 
-    PICA_FIELD_COUNT /* how many there are: PICA_FIELDS */
+    PICA_FIELD_COUNT /* how many there are, which is PICA_FIELDS_LENGTH */
 };
 
 #ifdef __cplusplus

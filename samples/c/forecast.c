@@ -1,5 +1,6 @@
 /*
- * Judges a captured list, shows what it sets, forecasts the length of a packed run, and draws one fragment with the state that the list leaves.
+ * Judges a captured list, shows what it sets, forecasts the length of a packed run, and draws one fragment with the state that
+ * the list leaves.
  *
  *     forecast FILE        FILE holds the list's words, four bytes a word, the lowest byte first
  *
@@ -11,19 +12,19 @@
 #include "pica.h"
 
 /* A field that is added to the header's list, or lost from it, would shift every name behind it. */
-typedef char names_every_field[PICA_FIELD_COUNT == PICA_FIELDS ? 1 : -1];
+typedef char names_every_field[PICA_FIELD_COUNT == PICA_FIELDS_LENGTH ? 1 : -1];
 
 struct state {
-    uint32_t cells[PICA_CELLS];
-    uint32_t fog[PICA_FOG_ENTRIES];
-    uint32_t light[PICA_LIGHT_ENTRIES];
+    uint32_t cells[PICA_CELLS_LENGTH];
+    uint32_t fog[PICA_FOG_LENGTH];
+    uint32_t light[PICA_LIGHT_LENGTH];
 };
 
 /* A whole state is lent to every call, always in this order. */
-#define LENT(s) (s)->cells, PICA_CELLS, (s)->fog, PICA_FOG_ENTRIES, (s)->light, PICA_LIGHT_ENTRIES
+#define LENT(s) (s)->cells, PICA_CELLS_LENGTH, (s)->fog, PICA_FOG_LENGTH, (s)->light, PICA_LIGHT_LENGTH
 
 /* One word more than the limit, so that a list that is too long is refused as such and not cut. */
-#define MOST_LOADED (PICA_MOST_WORDS + 1)
+#define MOST_LOADED (PICA_LIST_LENGTH_MOST + 1)
 
 static const char *name_of(uint32_t number) {
     switch (number) {
@@ -47,7 +48,8 @@ static const char *name_of(uint32_t number) {
 /* 1 where the call was answered; else says why not. */
 static int answered(const char *what, uint64_t answer) {
     if (pica_number(answer) == 0) return 1;
-    printf("%s: refused, %s (%u) at %u\n", what, name_of(pica_number(answer)), (unsigned)pica_number(answer), (unsigned)pica_value(answer));
+    uint32_t number = pica_number(answer);
+    printf("%s: refused, %s (%u) at %u\n", what, name_of(number), (unsigned)number, (unsigned)pica_value(answer));
     return 0;
 }
 
@@ -98,7 +100,7 @@ static int show_fields(const struct state *s) {
         {"depth format", PICA_FIELD_BUFFERS_DEPTH_FORMAT},
         {"light port index", PICA_FIELD_LIGHT_PORT_INDEX},
     };
-    uint32_t fields[PICA_FIELDS];
+    uint32_t fields[PICA_FIELDS_LENGTH];
     if (!answered("decode", pica_decode(LENT(s), fields))) return 0;
     /* The signed fields come in two's complement, and no unsigned one that is shown is too large for an int. */
     for (size_t k = 0; k < sizeof shown / sizeof *shown; k++) printf("  %s %d\n", shown[k].name, (int)(int32_t)fields[shown[k].field]);
@@ -107,12 +109,15 @@ static int show_fields(const struct state *s) {
     return 1;
 }
 
-/* A run that no packer gets right who takes the longest command first: the second write must open the rising one. */
+/*
+ * A run that no packer gets right who takes the longest command first: the second write must open the rising one. The first call
+ * lends no space and asks for the length; the second packs into just so many words.
+ */
 static int show_packing(void) {
     static const uint32_t ids[] = {0x41, 0x41, 0x42, 0x43}, masks[] = {15, 15, 15, 15}, values[] = {1, 2, 3, 4};
     uint32_t space[8];
-    uint64_t answer = pica_pack(ids, 4, masks, 4, values, 4, space, 4);
-    (void)answered("pack into 4 words", answer);
+    uint64_t answer = pica_pack(ids, 4, masks, 4, values, 4, NULL, 0);
+    (void)answered("pack without space", answer);
     if (pica_number(answer) != PICA_NO_ROOM || pica_value(answer) > 8) return 0;
     answer = pica_pack(ids, 4, masks, 4, values, 4, space, pica_value(answer));
     if (!answered("pack", answer)) return 0;
@@ -126,7 +131,7 @@ static uint32_t colour(uint32_t red, uint32_t green, uint32_t blue, uint32_t alp
 
 static int show_fragment(const struct state *s) {
     static const char *const verdicts[] = {"alpha failure", "stencil failure", "depth failure", "pass"};
-    uint32_t given[PICA_GIVEN] = {0}, stored[PICA_STORED];
+    uint32_t given[PICA_GIVEN_LENGTH] = {0}, stored[PICA_STORED_LENGTH];
     given[PICA_GIVEN_PRIMARY] = colour(255, 128, 64, 255);
     given[PICA_GIVEN_TEXTURE0] = colour(200, 128, 255, 192);
     given[PICA_GIVEN_INCOMING_DEPTH] = 4000000;
@@ -143,6 +148,14 @@ static int show_fragment(const struct state *s) {
     return 1;
 }
 
+/* An empty run, as an empty std::vector hands it over: four times null with length 0. Its list is the empty one. */
+static int show_empty(struct state *s) {
+    uint64_t packed = pica_pack(NULL, 0, NULL, 0, NULL, 0, NULL, 0), read = pica_read(LENT(s), NULL, 0);
+    if (!answered("pack an empty run", packed) || !answered("read an empty list", read)) return 0;
+    printf("empty: %u words, %u writes\n", (unsigned)pica_value(packed), (unsigned)pica_value(read));
+    return 1;
+}
+
 int main(int argc, char **argv) {
     static uint32_t list[MOST_LOADED];
     static struct state s;
@@ -155,5 +168,5 @@ int main(int argc, char **argv) {
         fprintf(stderr, "forecast: %s is no list of words\n", argv[1]);
         return 2;
     }
-    return show_read(&s, list, (size_t)length) && show_fields(&s) && show_packing() && show_fragment(&s) ? 0 : 1;
+    return show_read(&s, list, (size_t)length) && show_fields(&s) && show_packing() && show_empty(&s) && show_fragment(&s) ? 0 : 1;
 }

@@ -12,24 +12,27 @@ uint64_t pica_read(uint32_t *cells, size_t n, uint32_t *fog, size_t m, uint32_t 
     return 0;
 }
 
-uint64_t pica_write(uint32_t *cells, size_t n, uint32_t *fog, size_t m, uint32_t *light, size_t k, uint32_t id, uint32_t mask, uint32_t value) {
+uint64_t pica_write(uint32_t *cells, size_t n, uint32_t *fog, size_t m, uint32_t *light, size_t k, uint32_t id, uint32_t mask,
+                    uint32_t value) {
     STATE_UNUSED, UNUSED(id), UNUSED(mask), UNUSED(value);
     return 0;
 }
 
-uint64_t pica_pack(const uint32_t *cells, size_t n, const uint32_t *fog, size_t m, const uint32_t *light, size_t k, uint32_t *space, size_t room) {
+uint64_t pica_pack(const uint32_t *cells, size_t n, const uint32_t *fog, size_t m, const uint32_t *light, size_t k, uint32_t *space,
+                   size_t room) {
     STATE_UNUSED, UNUSED(space), UNUSED(room);
     return 0;
 }
 
-uint64_t pica_decode(const uint32_t *cells, size_t n, const uint32_t *fog, size_t m, const uint32_t *light, size_t k, uint32_t fields[PICA_FIELDS]) {
+uint64_t pica_decode(const uint32_t *cells, size_t n, const uint32_t *fog, size_t m, const uint32_t *light, size_t k,
+                     uint32_t fields[PICA_FIELDS_LENGTH]) {
     STATE_UNUSED;
-    if (BAD == 4) fields[PICA_FIELDS] = 1;
+    if (BAD == 4) fields[PICA_FIELDS_LENGTH] = 1;
     return 0;
 }
 
-uint64_t pica_fragment(const uint32_t *cells, size_t n, const uint32_t *fog, size_t m, const uint32_t *light, size_t k, const uint32_t given[PICA_GIVEN],
-                       uint32_t stored[PICA_STORED]) {
+uint64_t pica_fragment(const uint32_t *cells, size_t n, const uint32_t *fog, size_t m, const uint32_t *light, size_t k,
+                       const uint32_t given[PICA_GIVEN_LENGTH], uint32_t stored[PICA_STORED_LENGTH]) {
     STATE_UNUSED, UNUSED(given), UNUSED(stored);
     return 0;
 }

@@ -1,7 +1,7 @@
 /*
- * The C functions of the library on a machine that is not x86-64: each call is handed to an emulated program that links the real library. For the
- * tests alone. Each thread has an emulated program of its own, which ends with it. What is lent is copied there and back; a word that changes where
- * none may, beside a buffer or in one that is only read, ends the process.
+ * The C functions of the library on a machine that is not x86-64: each call is handed to an emulated program that links the real
+ * library. For the tests alone. Each thread has an emulated program of its own, which ends with it. What is lent is copied there
+ * and back; a word that changes where none may, beside a buffer or in one that is only read, ends the process.
  */
 #define _GNU_SOURCE
 #include <fcntl.h>
@@ -89,19 +89,24 @@ uint64_t pica_read(uint32_t *cells, size_t n, uint32_t *fog, size_t m, uint32_t 
     return call(READ, (struct buffer[LENT]){STATE(1), {(uint32_t *)list, length, 0}}, NULL);
 }
 
-uint64_t pica_write(uint32_t *cells, size_t n, uint32_t *fog, size_t m, uint32_t *light, size_t k, uint32_t id, uint32_t mask, uint32_t value) {
+uint64_t pica_write(uint32_t *cells, size_t n, uint32_t *fog, size_t m, uint32_t *light, size_t k, uint32_t id, uint32_t mask,
+                    uint32_t value) {
     return call(WRITE, (struct buffer[LENT]){STATE(1)}, (uint32_t[NUMBERS]){id, mask, value});
 }
 
-uint64_t pica_pack(const uint32_t *ids, size_t n, const uint32_t *masks, size_t m, const uint32_t *values, size_t k, uint32_t *space, size_t room) {
-    return call(PACK, (struct buffer[LENT]){{(uint32_t *)ids, n, 0}, {(uint32_t *)masks, m, 0}, {(uint32_t *)values, k, 0}, {space, room, 1}}, NULL);
+uint64_t pica_pack(const uint32_t *ids, size_t n, const uint32_t *masks, size_t m, const uint32_t *values, size_t k, uint32_t *space,
+                   size_t room) {
+    struct buffer run[LENT] = {{(uint32_t *)ids, n, 0}, {(uint32_t *)masks, m, 0}, {(uint32_t *)values, k, 0}, {space, room, 1}};
+    return call(PACK, run, NULL);
 }
 
-uint64_t pica_decode(const uint32_t *cells, size_t n, const uint32_t *fog, size_t m, const uint32_t *light, size_t k, uint32_t fields[PICA_FIELDS]) {
-    return call(DECODE, (struct buffer[LENT]){STATE(0), {fields, PICA_FIELDS, 1}}, NULL);
+uint64_t pica_decode(const uint32_t *cells, size_t n, const uint32_t *fog, size_t m, const uint32_t *light, size_t k,
+                     uint32_t fields[PICA_FIELDS_LENGTH]) {
+    return call(DECODE, (struct buffer[LENT]){STATE(0), {fields, PICA_FIELDS_LENGTH, 1}}, NULL);
 }
 
-uint64_t pica_fragment(const uint32_t *cells, size_t n, const uint32_t *fog, size_t m, const uint32_t *light, size_t k, const uint32_t given[PICA_GIVEN],
-                       uint32_t stored[PICA_STORED]) {
-    return call(FRAGMENT, (struct buffer[LENT]){STATE(0), {(uint32_t *)given, PICA_GIVEN, 0}, {stored, PICA_STORED, 1}}, NULL);
+uint64_t pica_fragment(const uint32_t *cells, size_t n, const uint32_t *fog, size_t m, const uint32_t *light, size_t k,
+                       const uint32_t given[PICA_GIVEN_LENGTH], uint32_t stored[PICA_STORED_LENGTH]) {
+    struct buffer lent[LENT] = {STATE(0), {(uint32_t *)given, PICA_GIVEN_LENGTH, 0}, {stored, PICA_STORED_LENGTH, 1}};
+    return call(FRAGMENT, lent, NULL);
 }

@@ -1,6 +1,7 @@
 /*
- * The program that links the real library, for x86-64, and runs under an emulator: for each byte on standard input it makes the call that stands
- * in the shared memory, and says so by a byte on standard output. It has no C library, so that a cross compiler alone builds it.
+ * The program that links the real library, for x86-64, and runs under an emulator: for each byte on standard input it makes the
+ * call that stands in the shared memory, and says so by a byte on standard output. It has no C library, so that a cross compiler
+ * alone builds it.
  */
 #include <stddef.h>
 
@@ -37,7 +38,8 @@ void *memcpy(void *restrict to, const void *restrict from, size_t n) {
 static uint64_t answer(struct call *c) {
     const struct lent *l = c->lent;
     uint32_t *w[LENT];
-    for (int k = 0; k < LENT; k++) w[k] = c->words + l[k].at;
+    /* null for an empty buffer, as the header allows: the library must not look there */
+    for (int k = 0; k < LENT; k++) w[k] = l[k].length ? c->words + l[k].at : NULL;
     switch (c->which) {
     case READ: return pica_read(STATE, w[3], l[3].length);
     case WRITE: return pica_write(STATE, c->numbers[0], c->numbers[1], c->numbers[2]);

@@ -1,6 +1,6 @@
 /*
- * The memory that a caller and the emulated library share: one call at a time. The words of each lent buffer stand between guard words, so that
- * a store past a buffer's end shows.
+ * The memory that a caller and the emulated library share: one call at a time. The words of each lent buffer stand between guard
+ * words, so that a store past a buffer's end shows.
  */
 #ifndef SHARED_H
 #define SHARED_H

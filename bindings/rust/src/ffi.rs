@@ -1,13 +1,14 @@
 //! The five C functions, and the only `unsafe` code of the crate.
 //!
-//! The C functions ask of their caller that each pointer is aligned and not null, that its length is true, and that buffers passed together do not
-//! overlap. Below, every buffer is a Rust reference, which is never null, is aligned and has its true length, for an empty slice too. A buffer that is
-//! written to is a `&mut`, which nothing overlaps; what overlaps among shared references is only read. The functions keep no pointer after they return.
+//! The C functions ask of their caller that each pointer is aligned, that its length is true, and that a buffer that is written
+//! to overlaps no other. Below, every buffer is a Rust reference, which is aligned and has its true length. A buffer that is
+//! written to is a `&mut`, which nothing overlaps; what overlaps among shared references is only read. The functions keep no
+//! pointer after they return.
 
 #![allow(unsafe_code)]
 
-use crate::fragment::{GIVEN, STORED};
-use crate::{Refusal, CELLS, FIELDS, FOG_ENTRIES, LIGHT_ENTRIES};
+use crate::fragment::{GIVEN_LENGTH, STORED_LENGTH};
+use crate::{Refusal, CELLS_LENGTH, FIELDS_LENGTH, FOG_LENGTH, LIGHT_LENGTH};
 
 mod c {
     extern "C" {
@@ -75,9 +76,9 @@ fn apart(answer: u64) -> Result<u32, Refusal> {
 }
 
 pub fn read(
-    cells: &mut [u32; CELLS],
-    fog: &mut [u32; FOG_ENTRIES],
-    light: &mut [u32; LIGHT_ENTRIES],
+    cells: &mut [u32; CELLS_LENGTH],
+    fog: &mut [u32; FOG_LENGTH],
+    light: &mut [u32; LIGHT_LENGTH],
     list: &[u32],
 ) -> Result<u32, Refusal> {
     // SAFETY: three distinct `&mut` arrays and a shared slice, each passed with its own length.
@@ -96,9 +97,9 @@ pub fn read(
 }
 
 pub fn write(
-    cells: &mut [u32; CELLS],
-    fog: &mut [u32; FOG_ENTRIES],
-    light: &mut [u32; LIGHT_ENTRIES],
+    cells: &mut [u32; CELLS_LENGTH],
+    fog: &mut [u32; FOG_LENGTH],
+    light: &mut [u32; LIGHT_LENGTH],
     id: u32,
     mask: u32,
     value: u32,
@@ -120,7 +121,8 @@ pub fn write(
 }
 
 pub fn pack(ids: &[u32], masks: &[u32], values: &[u32], space: &mut [u32]) -> Result<u32, Refusal> {
-    // SAFETY: three shared slices that are only read, and a `&mut` slice that none of them overlaps, each passed with its own length.
+    // SAFETY: three shared slices that are only read, and a `&mut` slice that none of them overlaps, each passed with its own
+    // length.
     apart(unsafe {
         c::pica_pack(
             ids.as_ptr(),
@@ -136,12 +138,13 @@ pub fn pack(ids: &[u32], masks: &[u32], values: &[u32], space: &mut [u32]) -> Re
 }
 
 pub fn decode(
-    cells: &[u32; CELLS],
-    fog: &[u32; FOG_ENTRIES],
-    light: &[u32; LIGHT_ENTRIES],
-    fields: &mut [u32; FIELDS],
+    cells: &[u32; CELLS_LENGTH],
+    fog: &[u32; FOG_LENGTH],
+    light: &[u32; LIGHT_LENGTH],
+    fields: &mut [u32; FIELDS_LENGTH],
 ) -> Result<u32, Refusal> {
-    // SAFETY: three shared arrays that are only read, with their own lengths; `fields` is a `&mut` array of exactly the words that are written.
+    // SAFETY: three shared arrays that are only read, with their own lengths; `fields` is a `&mut` array of exactly the words
+    // that are written.
     apart(unsafe {
         c::pica_decode(
             cells.as_ptr(),
@@ -156,13 +159,14 @@ pub fn decode(
 }
 
 pub fn fragment(
-    cells: &[u32; CELLS],
-    fog: &[u32; FOG_ENTRIES],
-    light: &[u32; LIGHT_ENTRIES],
-    given: &[u32; GIVEN],
-    stored: &mut [u32; STORED],
+    cells: &[u32; CELLS_LENGTH],
+    fog: &[u32; FOG_LENGTH],
+    light: &[u32; LIGHT_LENGTH],
+    given: &[u32; GIVEN_LENGTH],
+    stored: &mut [u32; STORED_LENGTH],
 ) -> Result<u32, Refusal> {
-    // SAFETY: four shared arrays that are only read; `given` and the `&mut` array `stored` have exactly the words that are read and written.
+    // SAFETY: four shared arrays that are only read; `given` and the `&mut` array `stored` have exactly the words that are read
+    // and written.
     apart(unsafe {
         c::pica_fragment(
             cells.as_ptr(),

@@ -1,9 +1,10 @@
-//! The flat order of the decoded fields: ids ascending, then lowest bit first. It is listed once in this crate's source, and both directions follow it.
+//! The flat order of the decoded fields: ids ascending, then lowest bit first. It is listed once in this crate's source, and
+//! both directions follow it.
 
 use crate::{Blending, BufferFog, Buffers, Colour, LightPort, Rasteriser, Settings, Stage, Tests};
 
-/// The decoded fields of a state.
-pub const FIELDS: usize = 204;
+/// The length of a state's decoded fields as one row of words.
+pub const FIELDS_LENGTH: usize = 204;
 
 /// A field as one word.
 trait Field {
@@ -165,8 +166,8 @@ fn every(s: &mut Settings, visit: Visit) {
 }
 
 impl Settings {
-    /// The fields as one row of words, in the order of the C function `pica_decode`: ids ascending, then lowest bit first, signed ones in two's
-    /// complement.
+    /// The fields as one row of words, in the order of the C function `pica_decode`: ids ascending, then lowest bit first,
+    /// signed ones in two's complement.
     ///
     /// ```
     /// let mut state = pica::State::default();
@@ -176,8 +177,9 @@ impl Settings {
     /// assert_eq!(flat[0], 2); // culling has the lowest id
     /// # Ok::<(), pica::Refusal>(())
     /// ```
-    pub fn flat(&self) -> [u32; FIELDS] {
-        let (mut settings, mut words, mut at) = (*self, [0; FIELDS], 0);
+    #[must_use]
+    pub fn flat(&self) -> [u32; FIELDS_LENGTH] {
+        let (mut settings, mut words, mut at) = (*self, [0; FIELDS_LENGTH], 0);
         every(&mut settings, &mut |field| {
             words[at] = field.word();
             at += 1;
@@ -185,7 +187,7 @@ impl Settings {
         words
     }
 
-    pub(crate) fn from_flat(words: &[u32; FIELDS]) -> Self {
+    pub(crate) fn from_flat(words: &[u32; FIELDS_LENGTH]) -> Self {
         let (mut settings, mut at) = (Self::default(), 0);
         every(&mut settings, &mut |field| {
             field.put(words[at]);
@@ -204,8 +206,8 @@ mod tests_of_the_order {
     fn every_field_is_met_once() {
         let mut met = 0;
         every(&mut Settings::default(), &mut |_| met += 1);
-        assert_eq!(met, FIELDS);
-        let words: [u32; FIELDS] = std::array::from_fn(|k| k as u32 + 1);
+        assert_eq!(met, FIELDS_LENGTH);
+        let words: [u32; FIELDS_LENGTH] = core::array::from_fn(|k| k as u32 + 1);
         assert_eq!(Settings::from_flat(&words).flat(), words);
     }
 }

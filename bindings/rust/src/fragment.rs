@@ -2,9 +2,9 @@
 
 use crate::Colour;
 
-/// The words that the C function is given for a fragment, and those that it stores.
-pub(crate) const GIVEN: usize = 11;
-pub(crate) const STORED: usize = 3;
+/// The lengths of what the C function is given for a fragment and of what it stores, in words.
+pub(crate) const GIVEN_LENGTH: usize = 11;
+pub(crate) const STORED_LENGTH: usize = 3;
 
 /// The seven colours that a fragment comes with.
 #[derive(Clone, Copy, Debug, Default, PartialEq, Eq, Hash)]
@@ -38,6 +38,7 @@ pub struct Stored {
 
 /// What became of a fragment.
 #[derive(Clone, Copy, Debug, PartialEq, Eq, Hash)]
+#[must_use]
 pub enum Verdict {
     /// The alpha test failed, and nothing changed.
     AlphaFailure,
@@ -51,6 +52,7 @@ pub enum Verdict {
 
 /// What one fragment leaves.
 #[derive(Clone, Copy, Debug, PartialEq, Eq, Hash)]
+#[must_use]
 pub struct Outcome {
     /// What became of it.
     pub verdict: Verdict,
@@ -59,7 +61,7 @@ pub struct Outcome {
 }
 
 /// The order of the C function: the seven colours, then the incoming depth, then what is stored.
-pub(crate) fn words_of(given: &Given, incoming: u32, stored: Stored) -> [u32; GIVEN] {
+pub(crate) fn words_of(given: &Given, incoming: u32, stored: Stored) -> [u32; GIVEN_LENGTH] {
     [
         given.primary.word(),
         given.fragment_primary.word(),
@@ -75,7 +77,7 @@ pub(crate) fn words_of(given: &Given, incoming: u32, stored: Stored) -> [u32; GI
     ]
 }
 
-pub(crate) fn outcome_of(verdict: u32, stored: [u32; STORED]) -> Outcome {
+pub(crate) fn outcome_of(verdict: u32, stored: [u32; STORED_LENGTH]) -> Outcome {
     Outcome {
         verdict: match verdict {
             0 => Verdict::AlphaFailure,

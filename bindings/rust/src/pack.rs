@@ -1,12 +1,15 @@
 //! Packing writes into the shortest list.
 
+use alloc::{vec, vec::Vec};
+
 use crate::{ffi, Refusal};
 
-/// The most writes that one run may have.
-pub const MOST_WRITES: usize = 4_096;
+/// The most writes that a run may have, to be packed.
+pub const RUN_LENGTH_MOST: usize = 4_096;
 
-/// One register write: the bytes of `value` whose bit in `mask` is 1 go to register `id`. Bit 0 of the mask stands for the lowest byte.
-#[derive(Clone, Copy, Debug, PartialEq, Eq, Hash)]
+/// One register write: the bytes of `value` whose bit in `mask` is 1 go to register `id`. Bit 0 of the mask stands for the
+/// lowest byte. The default's mask is 0, so that it sets no byte.
+#[derive(Clone, Copy, Debug, Default, PartialEq, Eq, Hash)]
 pub struct Write {
     /// The register.
     pub id: u32,
@@ -16,8 +19,9 @@ pub struct Write {
     pub value: u32,
 }
 
-/// Packs a run of writes into the shortest list there is, at the start of `space`, and gives the number of its words. Among the shortest lists it is
-/// the one whose first command carries the most writes, then its second, and so on. `space` past the list keeps its contents.
+/// Packs a run of writes into the shortest list that says it, at the start of `space`, and gives the number of its words.
+/// Among the shortest lists it is the one whose first command carries the most writes, then its second, and so on. `space`
+/// past the list keeps its contents.
 ///
 /// # Errors
 ///
@@ -63,7 +67,7 @@ pub fn packed(writes: &[Write]) -> Result<Vec<u32>, Refusal> {
     let masks: Vec<u32> = writes.iter().map(|w| w.mask).collect();
     let values: Vec<u32> = writes.iter().map(|w| w.value).collect();
     // a list is never longer than two words a write, and a longer run is refused before any space is needed
-    let mut space = vec![0; 2 * writes.len().min(MOST_WRITES)];
+    let mut space = vec![0; 2 * writes.len().min(RUN_LENGTH_MOST)];
     let words = pack(&ids, &masks, &values, &mut space)?;
     space.truncate(words);
     Ok(space)

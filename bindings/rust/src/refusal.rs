@@ -1,6 +1,6 @@
 //! Refusals: a number and a place.
 
-use std::{error::Error, fmt};
+use core::{error::Error, fmt};
 
 /// Why a call was refused: a number, and a place whose meaning depends on the number. A place that means nothing is 0.
 ///
@@ -13,6 +13,7 @@ use std::{error::Error, fmt};
 /// assert!(refusal.to_string().starts_with("refusal 4: id 23Ch or 23Dh"));
 /// ```
 #[derive(Clone, Copy, Debug, PartialEq, Eq, Hash)]
+#[must_use]
 pub struct Refusal {
     /// The number: one of this type's constants.
     pub number: u32,
@@ -49,6 +50,7 @@ impl Refusal {
     pub const NOT_BUILT: u32 = 14;
 
     /// What was wrong, without the place.
+    #[must_use]
     pub fn reason(&self) -> &'static str {
         match self.number {
             Self::LIST_TOO_LONG => "list over 65,536 words",

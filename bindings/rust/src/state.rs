@@ -1,26 +1,29 @@
 //! A state: the register file and the two tables.
 
-use std::fmt;
+use alloc::{boxed::Box, vec::Vec};
+use core::fmt;
 
 use crate::{ffi, flat, fragment, Given, Outcome, Refusal, Settings, Stored};
 
-/// Register cells of a state: cell `i` is register `i`.
-pub const CELLS: usize = 768;
-/// Fog entries of a state.
-pub const FOG_ENTRIES: usize = 128;
-/// Light entries of a state: entry `k` of table `t` is at `256 * t + k`.
-pub const LIGHT_ENTRIES: usize = 6_144;
-/// The most words that a list may have.
-pub const MOST_WORDS: usize = 65_536;
+/// The length of a state's register cells: cell `i` is register `i`.
+pub const CELLS_LENGTH: usize = 768;
+/// The length of its fog entries.
+pub const FOG_LENGTH: usize = 128;
+/// The length of its light entries: entry `k` of table `t` is at `256 * t + k`.
+pub const LIGHT_LENGTH: usize = 6_144;
+/// The most words that a list may have, to be read.
+pub const LIST_LENGTH_MOST: usize = 65_536;
 
 /// The register file, the fog table and the light tables. Its default is all zeros.
 ///
-/// Of a cell only the bits that the register holds count, and of an entry only the low 24. All other bits are never read by a call and never changed.
+/// Of a cell only the bits that the register holds count, and of an entry only the low 24. All other bits are never read by a
+/// call and never changed.
 #[derive(Clone, PartialEq, Eq)]
+#[must_use]
 pub struct State {
-    cells: Box<[u32; CELLS]>,
-    fog: Box<[u32; FOG_ENTRIES]>,
-    light: Box<[u32; LIGHT_ENTRIES]>,
+    cells: Box<[u32; CELLS_LENGTH]>,
+    fog: Box<[u32; FOG_LENGTH]>,
+    light: Box<[u32; LIGHT_LENGTH]>,
 }
 
 impl State {
@@ -46,32 +49,38 @@ impl State {
     }
 
     /// The register cells.
-    pub fn cells(&self) -> &[u32; CELLS] {
+    #[must_use]
+    pub fn cells(&self) -> &[u32; CELLS_LENGTH] {
         &self.cells
     }
 
     /// The register cells, to be changed.
-    pub fn cells_mut(&mut self) -> &mut [u32; CELLS] {
+    #[must_use]
+    pub fn cells_mut(&mut self) -> &mut [u32; CELLS_LENGTH] {
         &mut self.cells
     }
 
     /// The fog entries.
-    pub fn fog(&self) -> &[u32; FOG_ENTRIES] {
+    #[must_use]
+    pub fn fog(&self) -> &[u32; FOG_LENGTH] {
         &self.fog
     }
 
     /// The fog entries, to be changed.
-    pub fn fog_mut(&mut self) -> &mut [u32; FOG_ENTRIES] {
+    #[must_use]
+    pub fn fog_mut(&mut self) -> &mut [u32; FOG_LENGTH] {
         &mut self.fog
     }
 
     /// The light entries.
-    pub fn light(&self) -> &[u32; LIGHT_ENTRIES] {
+    #[must_use]
+    pub fn light(&self) -> &[u32; LIGHT_LENGTH] {
         &self.light
     }
 
     /// The light entries, to be changed.
-    pub fn light_mut(&mut self) -> &mut [u32; LIGHT_ENTRIES] {
+    #[must_use]
+    pub fn light_mut(&mut self) -> &mut [u32; LIGHT_LENGTH] {
         &mut self.light
     }
 
@@ -79,8 +88,8 @@ impl State {
     ///
     /// # Errors
     ///
-    /// 1; then for each command in turn 2 where its words are not all there, or 3, 4 or 5 by its first write at fault, with the index of the
-    /// command's first word. The state is then as it was.
+    /// 1; then for each command in turn 2 where its words are not all there, or 3, 4 or 5 by its first write at fault, with the
+    /// index of the command's first word. The state is then as it was.
     ///
     /// ```
     /// use pica::{Refusal, State};
@@ -148,12 +157,13 @@ impl State {
     /// # Ok::<(), Refusal>(())
     /// ```
     pub fn decode(&self) -> Result<Settings, Refusal> {
-        let mut words = [0; flat::FIELDS];
+        let mut words = [0; flat::FIELDS_LENGTH];
         ffi::decode(&self.cells, &self.fog, &self.light, &mut words)?;
         Ok(Settings::from_flat(&words))
     }
 
-    /// What a fragment leaves: its colours are given, its depth is incoming, and stored is what the framebuffer had for its pixel.
+    /// What a fragment leaves: its colours are given, its depth is incoming, and stored is what the framebuffer had for its
+    /// pixel.
     ///
     /// # Errors
     ///
@@ -188,7 +198,7 @@ impl State {
         stored: Stored,
     ) -> Result<Outcome, Refusal> {
         let words = fragment::words_of(given, incoming, stored);
-        let mut after = [0; fragment::STORED];
+        let mut after = [0; fragment::STORED_LENGTH];
         let verdict = ffi::fragment(&self.cells, &self.fog, &self.light, &words, &mut after)?;
         Ok(fragment::outcome_of(verdict, after))
     }
@@ -205,9 +215,9 @@ fn sized<const N: usize>(words: Vec<u32>) -> Result<Box<[u32; N]>, Refusal> {
 impl Default for State {
     fn default() -> Self {
         Self {
-            cells: Box::new([0; CELLS]),
-            fog: Box::new([0; FOG_ENTRIES]),
-            light: Box::new([0; LIGHT_ENTRIES]),
+            cells: Box::new([0; CELLS_LENGTH]),
+            fog: Box::new([0; FOG_LENGTH]),
+            light: Box::new([0; LIGHT_LENGTH]),
         }
     }
 }
@@ -218,7 +228,7 @@ impl fmt::Debug for State {
         let set = |words: &[u32]| words.iter().filter(|&&word| word != 0).count();
         write!(
             f,
-            "State {{ cells: {} of {CELLS} set, fog: {} of {FOG_ENTRIES}, light: {} of {LIGHT_ENTRIES} }}",
+            "State {{ cells: {} of {CELLS_LENGTH} set, fog: {} of {FOG_LENGTH}, light: {} of {LIGHT_LENGTH} }}",
             set(&*self.cells),
             set(&*self.fog),
             set(&*self.light)

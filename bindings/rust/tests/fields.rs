@@ -1,7 +1,8 @@
-//! Each decoded field against the bits of its register: a state that holds nothing but one field decodes to settings with nothing but that field, at its
-//! place in the flat order. The rows below are those of the field table, ids ascending and then lowest bit first; the crate's own list is not used.
+//! Each decoded field against the bits of its register: a state that holds nothing but one field decodes to settings with
+//! nothing but that field, at its place in the flat order. The rows below are those of the field table, ids ascending and then
+//! lowest bit first; the crate's own list is not used.
 
-use pica::{Refusal, Settings, State, FIELDS};
+use pica::{Refusal, Settings, State, FIELDS_LENGTH};
 
 struct Row {
     set: fn(&mut Settings, u32),
@@ -209,7 +210,7 @@ fn decodes_to_itself(at: usize, row: &Row, value: u32) -> bool {
     let mut expected = Settings::default();
     (row.set)(&mut expected, row.word(value));
     assert_eq!(settings, expected, "{:03X} {}", row.id, row.first);
-    let mut flat = [0; FIELDS];
+    let mut flat = [0; FIELDS_LENGTH];
     flat[at] = row.word(value);
     assert_eq!(settings.flat(), flat, "{:03X} {}", row.id, row.first);
     true
@@ -218,7 +219,7 @@ fn decodes_to_itself(at: usize, row: &Row, value: u32) -> bool {
 #[test]
 fn each_field_is_the_number_that_its_bits_hold() {
     let table = field_table();
-    assert_eq!(table.len(), FIELDS);
+    assert_eq!(table.len(), FIELDS_LENGTH);
     for (at, row) in table.iter().enumerate() {
         let named = row
             .values()

@@ -1,6 +1,6 @@
 //! Every refusal through the crate's face: its number, its place, its text, and that nothing has changed.
 
-use pica::{pack, packed, Given, Refusal, State, Stored, Write, MOST_WORDS, MOST_WRITES};
+use pica::{pack, packed, Given, Refusal, State, Stored, Write, LIST_LENGTH_MOST, RUN_LENGTH_MOST};
 
 fn assert_refused<T: std::fmt::Debug>(
     answer: Result<T, Refusal>,
@@ -30,7 +30,7 @@ fn of_lists() {
     let one = [7, 0x000F_0041];
     let after_one = |header: u32| [one, [0, header]].concat();
     assert_refused(
-        state.read(&vec![0; MOST_WORDS + 1]),
+        state.read(&vec![0; LIST_LENGTH_MOST + 1]),
         1,
         0,
         "list over 65,536 words",
@@ -106,7 +106,7 @@ fn of_runs() {
         value: 0,
     };
     assert_refused(
-        packed(&vec![lone; MOST_WRITES + 1]),
+        packed(&vec![lone; RUN_LENGTH_MOST + 1]),
         8,
         0,
         "over 4,096 writes",

@@ -1,5 +1,5 @@
--- What the small program prints: "`ok N` or `refused R at P`; longer input, or bytes that aren't a multiple of four, prints `input`. Each is one
--- line with a newline, numbers in decimal."
+-- What the small program prints: "`ok N` or `refused R at P`; longer input, or bytes that aren't a multiple of four, prints
+-- `input`. Each is one line with a newline, numbers in decimal."
 use mathlib.Core.Bool.{Bool, _&&_}
 use mathlib.Core.List.{List, [], _∷_, _++_}
 use Prim.Native.Nat.{ℕ, zero, suc, _+_, _*_, _/_, _%_}

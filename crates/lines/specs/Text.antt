@@ -18,7 +18,8 @@ unfoldable pub digits : ℕ → ℕ → List ℕ
 digits zero n = []
 digits (suc k) n = let front = digits k (n / 10) in pick (ltb n 10) [] front ++ ((48 + n % 10) ∷ [])
 
--- A NUMBER IN DECIMAL: it has no more digits than its value and one more. Laws `decimal-digit` and `decimal-more` say the same without a count
+-- A NUMBER IN DECIMAL: it has no more digits than its value and one more. Laws `decimal-digit` and `decimal-more` say the
+-- same without a count
 unfoldable pub decimal : ℕ → List ℕ
 decimal n = digits (suc n) n
 
@@ -26,8 +27,8 @@ decimal n = digits (suc n) n
 abbrev pub over : List ℕ → ℕ → List ℕ → List ℕ
 over old at text = take at old ++ text ++ drop (at + length text) old
 
--- A TEXT PUT AT THE START of lent space, where the call answers r: its length; the space past it keeps its contents. The last two facts follow from
--- the others, and are stated so that a caller can lend `&line[..r]` on without a proof
+-- A TEXT PUT AT THE START of lent space, where the call answers r: its length; the space past it keeps its contents. The
+-- last two facts follow from the others, and are stated so that a caller can lend `&line[..r]` on without a proof
 pub record Put (old text : List ℕ) (r : ℕ) (line : List ℕ) : Type 0 where
   pub number : r ≡ length text
   pub bytes : line ≡ over old 0 text

@@ -90,7 +90,8 @@ fn put_words(bytes: &[u8], words: &mut [u32]) -> usize
     n
 }
 
-// The line for all the bytes of an input, at the start of the lent space; answers how many bytes it has. The space past it keeps its contents.
+// The line for all the bytes of an input, at the start of the lent space; answers how many bytes it has. The space past it
+// keeps its contents.
 pub fn line_of(bytes: &[u8], line: &mut [u8; 64]) -> usize
     ensures { λ r. ⌜ Put (now (line .entry)) (lineOf (now (bytes .entry))) r (now (line .exit)) ⌝ }
 {

@@ -1,9 +1,11 @@
 // Commands and their expansion: document 004, "Overview" and "Command Header", and document 01, "A command".
 use crate::show;
 
-// 004: "If consecutive writing mode is enabled in the command header, the current command index will be incremented after each parameter write."
+// 004: "If consecutive writing mode is enabled in the command header, the current command index will be incremented after
+// each parameter write."
 fn consecutive() {
-    // 004: 'the sequence "0xAAAAAAAA 0x802F011C 0xBBBBBBBB 0xCCCCCCCC" is equivalent to a call to commands 0xF011C .., 0xF011D .. and 0xF011E'
+    // 004: 'the sequence "0xAAAAAAAA 0x802F011C 0xBBBBBBBB 0xCCCCCCCC" is equivalent to a call to commands 0xF011C ..,
+    // 0xF011D .. and 0xF011E'
     show::judged(
         b"consecutive",
         &[0xAAAAAAAA, 0x802F011C, 0xBBBBBBBB, 0xCCCCCCCC],
@@ -25,7 +27,8 @@ fn consecutive() {
         &[1, 0x002F0102, 2, 3],
         &[0x102, 0x103, 0x104],
     );
-    // 004, "Aliases": "a consecutively writing command based at 02C0 will write its first parameter to .. INDEX and ever subsequent ones to .. DATA"
+    // 004, "Aliases": "a consecutively writing command based at 02C0 will write its first parameter to .. INDEX and ever
+    // subsequent ones to .. DATA"
     show::judged(
         b"aliases",
         &[0x80000000, 0x808F02C0, 1, 2, 3, 4, 5, 6, 7, 8],
@@ -40,7 +43,8 @@ fn widths() {
     show::cells_after(b"two words", &[2, 0x000F0040], &[0x40]);
     // a lone word is less
     show::judged(b"a lone word", &[2]);
-    // 004: "a padding word to align commands to multiples of 8 bytes"; 01: its words aren't all there without it; "Any padding word .. accepted"
+    // 004: "a padding word to align commands to multiples of 8 bytes"; 01: its words aren't all there without it;
+    // "Any padding word .. accepted"
     show::judged(b"padded", &[1, 0x001F0041, 2, 0]);
     show::judged(b"padding left out", &[1, 0x001F0041, 2]);
     show::judged(b"padded with a number", &[1, 0x001F0041, 2, 0xDEADBEEF]);
@@ -68,7 +72,7 @@ fn headers() {
     show::judged(b"the end of a buffer", &[0x12345678, 0x000F0010]);
 }
 
-pub fn all() {
+pub(crate) fn all() {
     show::group(b"commands");
     consecutive();
     widths();

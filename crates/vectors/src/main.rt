@@ -1,4 +1,5 @@
-// The documents' examples about lists and about packing, run. The file `stdout` beside src/ was written from the documents, and the check compares.
+// The documents' examples about lists and about packing, run. The file `stdout` beside src/ was written from the documents,
+// and the check compares.
 mod commands;
 mod masks;
 mod packing;

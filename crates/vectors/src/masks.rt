@@ -8,8 +8,8 @@ fn parts() {
     show::cells_after(b"both", &[0x1F71, 0x00010107, 0x1F71, 0x00020107], &[0x107]);
 }
 
-// 004: "setting bit 16 to zero indicates that the least significant byte of the parameter will not be overwritten, setting bit 17 to zero indicates
-// that the parameter's second LSB will not be overwritten, etc."
+// 004: "setting bit 16 to zero indicates that the least significant byte of the parameter will not be overwritten, setting
+// bit 17 to zero indicates that the parameter's second LSB will not be overwritten, etc."
 fn bytes_kept() {
     show::cells_after(
         b"bit 16 zero",
@@ -42,8 +42,8 @@ fn bytes_kept() {
 // 01: "A write to a held register replaces, of the bits it holds, those in the bytes whose mask bit is 1."
 fn held_bits() {
     show::cells_after(b"bits that 40 holds", &[0xFFFFFFFF, 0x000F0040], &[0x40]);
-    // 004, "GPUREG_TEXENV_UPDATE_BUFFER": "Texture combiner buffer inputs are typically written with a mask of 0x2, and the gas/fog mode configuration
-    // is typically written with a mask of 0x5."
+    // 004, "GPUREG_TEXENV_UPDATE_BUFFER": "Texture combiner buffer inputs are typically written with a mask of 0x2, and the
+    // gas/fog mode configuration is typically written with a mask of 0x5."
     show::cells_after(
         b"combiner buffer inputs",
         &[0xFFFFFFFF, 0x000200E0],
@@ -58,7 +58,7 @@ fn held_bits() {
     );
 }
 
-pub fn all() {
+pub(crate) fn all() {
     show::group(b"masks");
     parts();
     bytes_kept();

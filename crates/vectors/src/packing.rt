@@ -144,7 +144,7 @@ fn rising_lengths() {
     rising_ids(513);
 }
 
-pub fn all() {
+pub(crate) fn all() {
     show::group(b"packing");
     runs();
     equal_lengths();

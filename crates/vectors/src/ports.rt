@@ -2,7 +2,8 @@
 use crate::show;
 
 fn fog() {
-    // 004: "Each write to these registers writes the provided value to the fog look-up table, starting at the index selected with GPUREG_FOG_LUT_INDEX"
+    // 004: "Each write to these registers writes the provided value to the fog look-up table, starting at the index
+    // selected with GPUREG_FOG_LUT_INDEX"
     show::fog_after(
         b"fog, one id",
         &[0, 0x000F00E6, 0x111111, 0x001F00E8, 0x222222, 0],
@@ -74,7 +75,7 @@ fn masked() {
     show::light_after(b"light, mask 7", &[5, 0x000F01C5, 1, 0x000701C8], &[0, 5]);
 }
 
-pub fn all() {
+pub(crate) fn all() {
     show::group(b"ports");
     fog();
     light();

@@ -22,8 +22,8 @@ fn jumps() {
     show::judged(b"23e", &[1, 0x000F023E]);
 }
 
-// 01: "Reading: 6, 1, then commands in order, each 2 first and then its writes; the first write at fault ends the reading, however deep in its
-// command, with the command's first word as place."
+// 01: "Reading: 6, 1, then commands in order, each 2 first and then its writes; the first write at fault ends the reading,
+// however deep in its command, with the command's first word as place."
 fn order() {
     show::judged(b"the second command", &[1, 0x001F0041, 2, 0, 3, 0x000F0300]);
     show::judged(b"words before writes", &[1, 0x001F0300, 2]);
@@ -40,7 +40,7 @@ fn order() {
     );
 }
 
-pub fn all() {
+pub(crate) fn all() {
     show::group(b"refusals");
     ids();
     jumps();

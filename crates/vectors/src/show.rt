@@ -1,4 +1,5 @@
-// How a vector is shown: its label with the answer's line, and then what some cells or entries hold after it was read into a state of zeros.
+// How a vector is shown: its label with the answer's line, and then what some cells or entries hold after it was read into
+// a state of zeros.
 use libc::STDOUT_FILENO;
 use reader::ListVerdict;
 use words::Refusal;
@@ -42,19 +43,19 @@ fn put_words(kind: &[u8], buffer: &[u32], places: &[u32]) {
 }
 
 // A group's heading.
-pub fn group(name: &[u8]) {
+pub(crate) fn group(name: &[u8]) {
     put(b"-- ");
     put(name);
     put(b"\n");
 }
 
 // The answer alone.
-pub fn judged(label: &[u8], list: &[u32]) {
+pub(crate) fn judged(label: &[u8], list: &[u32]) {
     put_answer(label, reader::judge_list(list));
 }
 
 // The answer, and the cells of these ids.
-pub fn cells_after(label: &[u8], list: &[u32], ids: &[u32]) {
+pub(crate) fn cells_after(label: &[u8], list: &[u32], ids: &[u32]) {
     let mut cells = [0u32; 768];
     let mut fog = [0u32; 128];
     let mut light = [0u32; 6144];
@@ -63,7 +64,7 @@ pub fn cells_after(label: &[u8], list: &[u32], ids: &[u32]) {
 }
 
 // The answer, the fog index, and these fog entries.
-pub fn fog_after(label: &[u8], list: &[u32], entries: &[u32]) {
+pub(crate) fn fog_after(label: &[u8], list: &[u32], entries: &[u32]) {
     let mut cells = [0u32; 768];
     let mut fog = [0u32; 128];
     let mut light = [0u32; 6144];
@@ -73,7 +74,7 @@ pub fn fog_after(label: &[u8], list: &[u32], entries: &[u32]) {
 }
 
 // The answer, the light index, and these light entries, numbered through all tables.
-pub fn light_after(label: &[u8], list: &[u32], entries: &[u32]) {
+pub(crate) fn light_after(label: &[u8], list: &[u32], entries: &[u32]) {
     let mut cells = [0u32; 768];
     let mut fog = [0u32; 128];
     let mut light = [0u32; 6144];
@@ -90,14 +91,14 @@ fn put_count(label: &[u8], n: usize) {
 }
 
 // A packed run: its writes and its words.
-pub fn words_of(label: &[u8], n: usize, words: usize) {
+pub(crate) fn words_of(label: &[u8], n: usize, words: usize) {
     put_count(label, n);
     io::print_decimal(STDOUT_FILENO, words as u64);
     put(b" words\n");
 }
 
 // A run that is refused.
-pub fn refusal_of(label: &[u8], n: usize, why: Refusal) {
+pub(crate) fn refusal_of(label: &[u8], n: usize, why: Refusal) {
     let mut line = [0u8; 64];
     put_count(label, n);
     let k = lines::line_for(ListVerdict::Refused(why), &mut line);
@@ -105,7 +106,7 @@ pub fn refusal_of(label: &[u8], n: usize, why: Refusal) {
 }
 
 // The words of a list, in hexadecimal.
-pub fn list_words(list: &[u32]) {
+pub(crate) fn list_words(list: &[u32]) {
     put(b" ");
     let mut i: usize = 0;
     while i < list.len() {

@@ -1,4 +1,5 @@
-// Reads a list as little-endian words from standard input, and prints the verdict on it: `ok N`, `refused R at P`, or `input` for what is no list.
+// Reads a list as little-endian words from standard input, and prints the verdict on it: `ok N`, `refused R at P`, or
+// `input` for what is no list.
 ghost use lib.ListN.{length};
 ghost use Rattle.verdict.specs.Inputs.{Within};
 use libc::STDIN_FILENO;

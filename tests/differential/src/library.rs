@@ -59,16 +59,25 @@ extern "C" {
 // SAFETY, for every call below: each pointer and its length come from one
 // slice or array that outlives the call, and no two of them overlap.
 
+/// Where a buffer begins; null for an empty one, which the header allows: a
+/// library that looks there doesn't come back.
+fn start(buffer: &mut [u32]) -> *mut u32 {
+    if buffer.is_empty() {
+        return std::ptr::null_mut();
+    }
+    buffer.as_mut_ptr()
+}
+
 fn read([cells, fog, light]: Lent, list: &mut [u32]) -> u64 {
     unsafe {
         pica_read(
-            cells.as_mut_ptr(),
+            start(cells),
             cells.len(),
-            fog.as_mut_ptr(),
+            start(fog),
             fog.len(),
-            light.as_mut_ptr(),
+            start(light),
             light.len(),
-            list.as_mut_ptr(),
+            start(list),
             list.len(),
         )
     }
@@ -77,11 +86,11 @@ fn read([cells, fog, light]: Lent, list: &mut [u32]) -> u64 {
 fn write([cells, fog, light]: Lent, [id, mask, value]: [u32; 3]) -> u64 {
     unsafe {
         pica_write(
-            cells.as_mut_ptr(),
+            start(cells),
             cells.len(),
-            fog.as_mut_ptr(),
+            start(fog),
             fog.len(),
-            light.as_mut_ptr(),
+            start(light),
             light.len(),
             id,
             mask,
@@ -93,13 +102,13 @@ fn write([cells, fog, light]: Lent, [id, mask, value]: [u32; 3]) -> u64 {
 fn pack([ids, masks, values]: Lent, space: &mut [u32]) -> u64 {
     unsafe {
         pica_pack(
-            ids.as_mut_ptr(),
+            start(ids),
             ids.len(),
-            masks.as_mut_ptr(),
+            start(masks),
             masks.len(),
-            values.as_mut_ptr(),
+            start(values),
             values.len(),
-            space.as_mut_ptr(),
+            start(space),
             space.len(),
         )
     }
@@ -108,11 +117,11 @@ fn pack([ids, masks, values]: Lent, space: &mut [u32]) -> u64 {
 fn decode([cells, fog, light]: Lent, fields: &mut [u32; FIELD_COUNT]) -> u64 {
     unsafe {
         pica_decode(
-            cells.as_mut_ptr(),
+            start(cells),
             cells.len(),
-            fog.as_mut_ptr(),
+            start(fog),
             fog.len(),
-            light.as_mut_ptr(),
+            start(light),
             light.len(),
             fields.as_mut_ptr(),
         )
@@ -122,11 +131,11 @@ fn decode([cells, fog, light]: Lent, fields: &mut [u32; FIELD_COUNT]) -> u64 {
 fn fragment([cells, fog, light]: Lent, given: &mut [u32; 11], stored: &mut [u32; 3]) -> u64 {
     unsafe {
         pica_fragment(
-            cells.as_mut_ptr(),
+            start(cells),
             cells.len(),
-            fog.as_mut_ptr(),
+            start(fog),
             fog.len(),
-            light.as_mut_ptr(),
+            start(light),
             light.len(),
             given.as_mut_ptr(),
             stored.as_mut_ptr(),

@@ -47,8 +47,10 @@ pub struct LightPort {
     pub table: u32,
 }
 
-/// The whole decoded state: 204 fields, in groups. Each is the unsigned number that its bits hold, only the two of register 68 are signed.
+/// The whole decoded state: 204 fields, in groups. Each is the unsigned number that its bits hold, only the two of register
+/// 68 are signed.
 #[derive(Clone, Copy, Debug, Default, PartialEq, Eq, Hash)]
+#[must_use]
 pub struct Settings {
     /// 40-44, 47-4B, 4D, 4E, 65-68, 6D.
     pub rasteriser: Rasteriser,

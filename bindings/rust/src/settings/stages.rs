@@ -86,8 +86,8 @@ pub struct Stages {
     pub stage5: Stage,
 }
 
-/// Register E0: the fog mode, and what stages 2 to 5 see as Previous buffer. Where the bit of stage k is 1, stage k+1 sees as buffer what stage k saw as
-/// Previous, else the buffer that stage k saw.
+/// Register E0: the fog mode, and what stages 2 to 5 see as Previous buffer. Where the bit of stage k is 1, stage k+1 sees as
+/// buffer what stage k saw as Previous, else the buffer that stage k saw.
 #[derive(Clone, Copy, Debug, Default, PartialEq, Eq, Hash)]
 pub struct UpdateBuffer {
     /// Bits 0-2: the fog mode.

@@ -102,7 +102,8 @@ put-decimal-returns-2 t c =
     let h = c .before .before .before .before .if1 .left in
     let g = c .before .before .put-decimal in
     let e = length-more (o .args .n) h in
-    (omega arith, put-last (o .args .line .now) (o .args .at) (o .args .n) (o .pre .1) (g .last .0) (g .result) h (g .kept .0) (g .ensures .0) (g .ensures .1))
+    let last = put-last (o .args .line .now) (o .args .at) (o .args .n) (o .pre .1) (g .last .0) (g .result) h in
+    (omega arith, last (g .kept .0) (g .ensures .0) (g .ensures .1))
 
 pub +put-decimal-spec : {M : Type 1} → statement M
 +put-decimal-spec = close μ-put-decimal λ t. put-decimal-lts.spec (

@@ -19,11 +19,14 @@ put-words-requires : tie.Need-put-words-requires
 put-words-requires c κs = let n = list-fits (c .before .before .before .args .bytes .now) (c .before .if1 .taken) in omega arith
 
 array-share-prefix-words : tie.Need-array-share-prefix-words
-array-share-prefix-words c = let n = list-fits (c .before .before .before .before .before .args .bytes .now) (c .before .before .before .if1 .taken) in omega arith
+array-share-prefix-words c =
+    let t = c .before .before .before in
+    let n = list-fits (t .before .before .args .bytes .now) (t .if1 .taken) in omega arith
 
 slice-aggregate-judge-list : tie.Need-slice-aggregate-judge-list
 slice-aggregate-judge-list c =
-    let n = list-fits (c .before .before .before .before .before .before .args .bytes .now) (c .before .before .before .before .if1 .taken) in
+    let t = c .before .before .before .before in
+    let n = list-fits (t .before .before .args .bytes .now) (t .if1 .taken) in
     sym (length-take-le (c .before .before .put-words .result) (c .before .before .put-words .last .1 .0) (omega arith))
 
 judge-list-requires : tie.Need-judge-list-requires
@@ -40,14 +43,19 @@ put-text-requires c κs = search needs
 
 returns : tie.Need-returns
 returns c =
-    let b = c .before .before .before .before .before .before .before .before .before .args .bytes .now in
-    let v = c .before .before .judge-list .ensures ∙ ap verdict (c .before .before .before .before .before .put-words .ensures .1) in
-    let e : lineFor (told (c .before .before .judge-list .result)) ≡ lineOf b = ap lineFor v ∙ sym (line-of-list b (c .before .before .before .before .before .before .before .if1 .taken)) in
+    let judged = c .before .before .judge-list in
+    let put = c .before .before .before .before .before in
+    let t = put .before .before in
+    let b = t .before .before .args .bytes .now in
+    let v = judged .ensures ∙ ap verdict (put .put-words .ensures .1) in
+    let e : lineFor (told (judged .result)) ≡ lineOf b = ap lineFor v ∙ sym (line-of-list b (t .if1 .taken)) in
     rw (← e) (c .line-for .ensures)
 
 returns-2 : tie.Need-returns-2
 returns-2 c =
-    let e = line-of-other (c .before .before .before .before .before .args .bytes .now) (c .before .before .before .if1 .left) in rw e (put-first _ (ascii "input\n") (c .put-text .ensures))
+    let t = c .before .before .before in
+    let e = line-of-other (t .before .before .args .bytes .now) (t .if1 .left) in
+    rw e (put-first _ (ascii "input\n") (c .put-text .ensures))
 
 pub line-of-spec : {M : Type 1} → statement M
 line-of-spec =

@@ -13,24 +13,31 @@ put-text-requires : tie.Need-put-text-requires
 put-text-requires c κs = search needs
 
 put-decimal-requires : tie.Need-put-decimal-requires
-put-decimal-requires c κs = let d = length-64 (c .before .before .before .before .before .before .before .args .n) (c .before .before .before .before .before .before .before .fits .n .fits) in omega arith
+put-decimal-requires c κs =
+    let o = c .before .before .before .before .before .before .before in
+    let d = length-64 (o .args .n) (o .fits .n .fits) in omega arith
 
 slice-aggregate-put-text-2 : tie.Need-slice-aggregate-put-text-2
 slice-aggregate-put-text-2 c = search needs
 
 put-text-requires-2 : tie.Need-put-text-requires-2
-put-text-requires-2 c κs = let d = length-64 (c .before .before .before .before .before .before .before .before .before .before .before .before .args .n) (c .before .before .before .before .before .before .before .before .before .before .before .before .fits .n .fits) in omega arith
+put-text-requires-2 c κs =
+    let o = c .before .before .before .before .before .before .before .before .before .before .before .before in
+    let d = length-64 (o .args .n) (o .fits .n .fits) in omega arith
 
 same-length : tie.Need-same-length
 same-length c = search needs
 
 returns : tie.Need-returns
 returns c =
-    let o = c .before .before .before .before .before .before .before .before .before .before .before .before .before .before .before in
+    let third = c .before .before in
+    let second = third .before .before .before .before .before in
+    let first = second .before .before .before .before in
+    let o = first .before .before .before .before in
     let d = length-64 (o .args .n) (o .fits .n .fits) in
-    let a = put-first (o .args .line .now) (ascii "ok ") (c .before .before .before .before .before .before .before .before .before .before .before .put-text .ensures) in
-    let b = put-next a (decimal (o .args .n)) (omega arith) (c .before .before .before .before .before .before .before .put-decimal .ensures) in
-    let t = put-next b (ascii "\n") (omega arith) (c .before .before .put-text2 .ensures) in t
+    let a = put-first (o .args .line .now) (ascii "ok ") (first .put-text .ensures) in
+    let b = put-next a (decimal (o .args .n)) (omega arith) (second .put-decimal .ensures) in
+    put-next b (ascii "\n") (omega arith) (third .put-text2 .ensures)
 
 pub put-ok-spec : {M : Type 1} → statement M
 put-ok-spec =

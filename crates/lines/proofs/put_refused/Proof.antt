@@ -13,17 +13,22 @@ put-text-requires : tie.Need-put-text-requires
 put-text-requires c κs = search needs
 
 put-decimal-requires : tie.Need-put-decimal-requires
-put-decimal-requires c κs = let d = length-64 (c .before .before .before .before .before .before .before .args .number) (omega arith) in omega arith
+put-decimal-requires c κs =
+    let o = c .before .before .before .before .before .before .before in
+    let d = length-64 (o .args .number) (omega arith) in omega arith
 
 slice-aggregate-put-text-2 : tie.Need-slice-aggregate-put-text-2
 slice-aggregate-put-text-2 c = search needs
 
 put-text-requires-2 : tie.Need-put-text-requires-2
-put-text-requires-2 c κs = let d = length-64 (c .before .before .before .before .before .before .before .before .before .before .before .before .args .number) (omega arith) in omega arith
+put-text-requires-2 c κs =
+    let o = c .before .before .before .before .before .before .before .before .before .before .before .before in
+    let d = length-64 (o .args .number) (omega arith) in omega arith
 
 put-decimal-requires-2 : tie.Need-put-decimal-requires-2
 put-decimal-requires-2 c κs =
-    let o = c .before .before .before .before .before .before .before .before .before .before .before .before .before .before .before .before in
+    let second = c .before .before .before .before .before .before .before .before in
+    let o = second .before .before .before .before .before .before .before .before in
     let d = length-64 (o .args .number) (omega arith) in
     let e = length-64 (o .args .place) (o .fits .place .fits) in omega arith
 
@@ -32,7 +37,8 @@ slice-aggregate-put-text-3 c = search needs
 
 put-text-requires-3 : tie.Need-put-text-requires-3
 put-text-requires-3 c κs =
-    let o = c .before .before .before .before .before .before .before .before .before .before .before .before .before .before .before .before .before .before .before .before .before in
+    let third = c .before .before .before .before .before .before .before .before in
+    let o = third .before .before .before .before .before .before .before .before .before .before .before .before .before in
     let d = length-64 (o .args .number) (omega arith) in
     let e = length-64 (o .args .place) (o .fits .place .fits) in omega arith
 
@@ -41,14 +47,19 @@ same-length c = search needs
 
 returns : tie.Need-returns
 returns c =
-    let o = c .before .before .before .before .before .before .before .before .before .before .before .before .before .before .before .before .before .before .before .before .before .before .before .before in
+    let fifth = c .before .before in
+    let fourth = fifth .before .before .before .before .before in
+    let third = fourth .before .before .before .before in
+    let second = third .before .before .before .before .before in
+    let first = second .before .before .before .before in
+    let o = first .before .before .before .before in
     let d = length-64 (o .args .number) (omega arith) in
     let e = length-64 (o .args .place) (o .fits .place .fits) in
-    let f = put-first (o .args .line .now) (ascii "refused ") (c .before .before .before .before .before .before .before .before .before .before .before .before .before .before .before .before .before .before .before .before .put-text .ensures) in
-    let g = put-next f (decimal (o .args .number)) (omega arith) (c .before .before .before .before .before .before .before .before .before .before .before .before .before .before .before .before .put-decimal .ensures) in
-    let h = put-next g (ascii " at ") (omega arith) (c .before .before .before .before .before .before .before .before .before .before .before .put-text2 .ensures) in
-    let i = put-next h (decimal (o .args .place)) (omega arith) (c .before .before .before .before .before .before .before .put-decimal2 .ensures) in
-    let j = put-next i (ascii "\n") (omega arith) (c .before .before .put-text3 .ensures) in j
+    let f = put-first (o .args .line .now) (ascii "refused ") (first .put-text .ensures) in
+    let g = put-next f (decimal (o .args .number)) (omega arith) (second .put-decimal .ensures) in
+    let h = put-next g (ascii " at ") (omega arith) (third .put-text2 .ensures) in
+    let i = put-next h (decimal (o .args .place)) (omega arith) (fourth .put-decimal2 .ensures) in
+    put-next i (ascii "\n") (omega arith) (fifth .put-text3 .ensures)
 
 pub put-refused-spec : {M : Type 1} → statement M
 put-refused-spec =

@@ -1,4 +1,5 @@
--- `lines::put_text` meets its contract: after i turns the line is its first contents with i bytes of the text pasted over them. Assumes nothing.
+-- `lines::put_text` meets its contract: after i turns the line is its first contents with i bytes of the text pasted over
+-- them. Assumes nothing.
 use mathlib.Core.Path.{_≡_}
 use Prim.Native.Nat.{_+_, _-_, _≤_}
 use native.Mathlib.Omega.{arith}
@@ -9,7 +10,8 @@ use Rattle.lines.proofs.put_text.Statement.{statement}
 use Rattle.lines.proofs.put_text.Tie as tie
 
 abbrev Inv-loop : tie.InvT-loop
-Inv-loop line₀ at text i₀ line i = (line ≡ paste line₀ at text i) × (i ≤ length text) × (at + length text ≤ length line₀) × (length line ≡ length line₀)
+Inv-loop line₀ at text i₀ line i =
+    (line ≡ paste line₀ at text i) × (i ≤ length text) × (at + length text ≤ length line₀) × (length line ≡ length line₀)
 
 abbrev μ-loop : tie.MeasureT-loop
 μ-loop line₀ at text i₀ line i = length text - i
@@ -51,8 +53,9 @@ same-length c = omega arith
 returns : tie.Need-returns Inv-loop μ-loop
 returns c =
     let o = c .before in
-    let e : o .loop .i ≡ length (o .before .args .text .now) = omega arith in
-    (rw e, over-all (o .loop .line) (o .before .args .line .now) (o .before .args .text .now) (o .before .args .at) (o .loop .i) (o .loop .inv .0) e)
+    let a = o .before .args in
+    let e : o .loop .i ≡ length (a .text .now) = omega arith in
+    (rw e, over-all (o .loop .line) (a .line .now) (a .text .now) (a .at) (o .loop .i) (o .loop .inv .0) e)
 
 pub put-text-spec : {M : Type 1} → statement M
 put-text-spec =

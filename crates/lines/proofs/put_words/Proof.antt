@@ -10,13 +10,16 @@ use Rattle.lines.proofs.put_words.Statement.{statement}
 use Rattle.lines.proofs.put_words.Tie as tie
 
 abbrev Inv-loop : tie.InvT-loop
-Inv-loop bytes words₀ n i₀ words i = (take i words ≡ firstWords bytes i) × (length words ≡ length words₀) × (n ≤ length words₀) × (n ≡ length bytes / 4) × (i ≤ n)
+Inv-loop bytes words₀ n i₀ words i =
+    (take i words ≡ firstWords bytes i) × (length words ≡ length words₀) × (n ≤ length words₀) × (n ≡ length bytes / 4) × (i ≤ n)
 
 abbrev μ-loop : tie.MeasureT-loop
 μ-loop bytes words₀ n i₀ words i = n - i
 
 loop-holds : tie.Need-loop-holds Inv-loop μ-loop
-loop-holds c = (no-words (c .before .before .args .bytes .now) (c .before .before .args .words .now), omega arith, omega arith, omega arith, omega arith)
+loop-holds c =
+    let o = c .before .before in
+    (no-words (o .args .bytes .now) (o .args .words .now), omega arith, omega arith, omega arith, omega arith)
 
 mul-at : tie.Need-mul-at Inv-loop μ-loop
 mul-at c = omega arith
@@ -60,8 +63,9 @@ loop-less c = omega arith
 loop-again : tie.Need-loop-again Inv-loop μ-loop
 loop-again c =
     let o = c .before .before .before .before .before .before in
-    let b = c .before .before .before .before .before .before .before .before .before .args .bytes .now in
-    (next-word b (o .loop .words) (o .loop .i) (c .word-of .result) (omega arith) (c .word-of .ensures) (o .loop .inv .0), simp length-set (omega arith), omega arith, omega arith, omega arith)
+    let b = o .before .before .before .args .bytes .now in
+    let next = next-word b (o .loop .words) (o .loop .i) (c .word-of .result) (omega arith) (c .word-of .ensures) (o .loop .inv .0) in
+    (next, simp length-set (omega arith), omega arith, omega arith, omega arith)
 
 same-length : tie.Need-same-length Inv-loop μ-loop
 same-length c = c .before .loop .inv .1

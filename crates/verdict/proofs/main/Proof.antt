@@ -31,12 +31,16 @@ returns c = search needs
 
 array-share-prefix-bytes : tie.Need-array-share-prefix-bytes
 array-share-prefix-bytes c =
-    let w : Within (Bytes (c .before .n .given .0 .0)) 65537 = rw (c .before .n .given .1) at (c .before .before .before .before .read-all .ensures) in omega arith
+    let n = c .before .n .given in
+    let read = c .before .before .before .before .read-all in
+    let w : Within (Bytes (n .0 .0)) 65537 = rw (n .1) at (read .ensures) in omega arith
 
 slice-aggregate-line-of : tie.Need-slice-aggregate-line-of
 slice-aggregate-line-of c =
-    let w : Within (Bytes (c .before .before .n .given .0 .0)) 65537 = rw (c .before .before .n .given .1) at (c .before .before .before .before .before .read-all .ensures) in
-    sym (length-take-le (c .before .before .n .given .0 .0) (c .before .before .before .before .before .read-all .last .0) (omega arith))
+    let n = c .before .before .n .given in
+    let read = c .before .before .before .before .before .read-all in
+    let w : Within (Bytes (n .0 .0)) 65537 = rw (n .1) at (read .ensures) in
+    sym (length-take-le (n .0 .0) (read .last .0) (omega arith))
 
 line-of-requires : tie.Need-line-of-requires
 line-of-requires c κs = search needs
