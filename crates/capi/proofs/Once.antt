@@ -11,7 +11,7 @@ use Rattle.registers.specs.Single.{writeAnswer, writeState}
 use Rattle.reader.specs.Read.{readAnswer, readState}
 use Rattle.packer.specs.Packing.{packAnswer, packSpace}
 use Rattle.decode.specs.Decoded.{decodedOf}
-use Rattle.capi.specs.Calls.{answer, decodeCall, fieldsAfter, fragmentOf, fragmentCall, storedAfter}
+use Rattle.capi.specs.Calls.{answer, decodeCall, fieldsAfter, fragmentOf, fragmentCall, storedWordsAfter}
 use Rattle.capi.proofs.pica_read.Reads as read
 use Rattle.capi.proofs.pica_read.Kinds as read-kinds
 use Rattle.capi.proofs.pica_write.Reads as write
@@ -23,33 +23,33 @@ use Rattle.capi.proofs.pica_decode.Kinds as decode-kinds
 use Rattle.capi.proofs.pica_fragment.Reads as fragment
 use Rattle.capi.proofs.pica_fragment.Kinds as fragment-kinds
 
-pub read-settled : (κs : Lfts 4) (a : Dens κs read-kinds.ps)
+pub pica-read-settled : (κs : Lfts 4) (a : Dens κs read-kinds.ps)
     → Settles (λ e. st (now (e .0)) (now (e .1 .0)) (now (e .1 .1 .0))) (read.Post κs a)
-read-settled κs a =
+pica-read-settled κs a =
     let s = st (now (a .0)) (now (a .1 .0)) (now (a .1 .1 .0)) in
     let l = now (a .1 .1 .1 .0) in settled _ _ (λ r. r) (λ r r′ e. e) (answer (readAnswer s l)) (readState s l) (λ r e p. p)
 
-pub write-settled : (κs : Lfts 3) (a : Dens κs write-kinds.ps)
+pub pica-write-settled : (κs : Lfts 3) (a : Dens κs write-kinds.ps)
     → Settles (λ e. st (now (e .0)) (now (e .1 .0)) (now (e .1 .1 .0))) (write.Post κs a)
-write-settled κs a =
+pica-write-settled κs a =
     let s = st (now (a .0)) (now (a .1 .0)) (now (a .1 .1 .0)) in
     let w = writing (a .1 .1 .1 .0) (a .1 .1 .1 .1 .0) (a .1 .1 .1 .1 .1 .0) in
     settled _ _ (λ r. r) (λ r r′ e. e) (answer (writeAnswer s w)) (writeState s w) (λ r e p. p)
 
-pub pack-settled : (κs : Lfts 4) (a : Dens κs pack-kinds.ps) → Settles (λ e. now (e .1 .1 .1 .0)) (pack.Post κs a)
-pack-settled κs a =
+pub pica-pack-settled : (κs : Lfts 4) (a : Dens κs pack-kinds.ps) → Settles (λ e. now (e .1 .1 .1 .0)) (pack.Post κs a)
+pica-pack-settled κs a =
     let is = now (a .0) in
     let ms = now (a .1 .0) in
     let vs = now (a .1 .1 .0) in
     let old = now (a .1 .1 .1 .0) in
     settled _ _ (λ r. r) (λ r r′ e. e) (answer (packAnswer is ms vs (length old))) (packSpace is ms vs old) (λ r e p. p)
 
-pub decode-settled : (κs : Lfts 4) (a : Dens κs decode-kinds.ps) → Settles (λ e. now (e .1 .1 .1 .0)) (decode.Post κs a)
-decode-settled κs a =
+pub pica-decode-settled : (κs : Lfts 4) (a : Dens κs decode-kinds.ps) → Settles (λ e. now (e .1 .1 .1 .0)) (decode.Post κs a)
+pica-decode-settled κs a =
     let d = decodedOf (st (now (a .0)) (now (a .1 .0)) (now (a .1 .1 .0))) in
     settled _ _ (λ r. r) (λ r r′ e. e) (decodeCall d) (fieldsAfter d (now (a .1 .1 .1 .0))) (λ r e p. p)
 
-pub fragment-settled : (κs : Lfts 5) (a : Dens κs fragment-kinds.ps) → Settles (λ e. now (e .1 .1 .1 .1 .0)) (fragment.Post κs a)
-fragment-settled κs a =
+pub pica-fragment-settled : (κs : Lfts 5) (a : Dens κs fragment-kinds.ps) → Settles (λ e. now (e .1 .1 .1 .1 .0)) (fragment.Post κs a)
+pica-fragment-settled κs a =
     let d = fragmentOf (st (now (a .0)) (now (a .1 .0)) (now (a .1 .1 .0))) (now (a .1 .1 .1 .0)) in
-    settled _ _ (λ r. r) (λ r r′ e. e) (fragmentCall d) (storedAfter d (now (a .1 .1 .1 .1 .0))) (λ r e p. p)
+    settled _ _ (λ r. r) (λ r r′ e. e) (fragmentCall d) (storedWordsAfter d (now (a .1 .1 .1 .1 .0))) (λ r e p. p)

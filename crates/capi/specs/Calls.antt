@@ -61,6 +61,6 @@ fragmentCall (drawn.Refused r) = call (r .number) (r .place)
 abbrev pub storedWords : Stored → List ℕ
 storedWords s = wordOf (s .colour) ∷ s .stencil ∷ s .depth ∷ []
 
-abbrev pub storedAfter : Drawn → List ℕ → List ℕ
-storedAfter (drawn.Done o) old = storedWords (o .stored)
-storedAfter (drawn.Refused r) old = old
+abbrev pub storedWordsAfter : Drawn → List ℕ → List ℕ
+storedWordsAfter (drawn.Done o) old = storedWords (o .stored)
+storedWordsAfter (drawn.Refused r) old = old

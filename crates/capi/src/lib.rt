@@ -9,7 +9,7 @@ ghost use Rattle.reader.specs.Read.{readAnswer, readState};
 ghost use Rattle.packer.specs.Packing.{packAnswer, packSpace};
 ghost use Rattle.decode.specs.Decoded.{decodedOf};
 ghost use Rattle.stores.specs.Tests.{verdictNumber};
-ghost use Rattle.capi.specs.Calls.{call, answer, decodeCall, fieldsAfter, fragmentOf, fragmentCall, storedAfter};
+ghost use Rattle.capi.specs.Calls.{call, answer, decodeCall, fieldsAfter, fragmentOf, fragmentCall, storedWordsAfter};
 use decode::Decoded;
 use fragment::Drawn;
 use packer::Packed;
@@ -137,7 +137,7 @@ pub extern "C" fn pica_fragment(
         ⌝ }
     ensures stored { λ _. ⌜
         now (stored .exit)
-        ≡ storedAfter (fragmentOf (st (now (cells .entry)) (now (fog .entry)) (now (light .entry))) (now (given .entry)))
+        ≡ storedWordsAfter (fragmentOf (st (now (cells .entry)) (now (fog .entry)) (now (light .entry))) (now (given .entry)))
         (now (stored .entry))
         ⌝ }
 {

@@ -19,6 +19,16 @@ use Rattle.reader.specs.Read.{told as read-told, readAnswer, readState}
 use Rattle.reader.specs.declared.ListVerdict.{ListVerdict}
 use Rattle.reader.proofs.read.Reads as read
 use Rattle.reader.proofs.read.Kinds as read-kinds
+use Rattle.decode.specs.Decoded.{decodedOf}
+use Rattle.decode.specs.declared.Decoded.{Decoded}
+use Rattle.decode.proofs.decode.Reads as decode
+use Rattle.decode.proofs.decode.Kinds as decode-kinds
+use Rattle.combiner.specs.declared.Given.{Given}
+use Rattle.stores.specs.declared.Stored.{Stored}
+use Rattle.fragment.specs.Drawn.{drawnOf}
+use Rattle.fragment.specs.declared.Drawn.{Drawn}
+use Rattle.fragment.proofs.draw.Reads as draw
+use Rattle.fragment.proofs.draw.Kinds as draw-kinds
 use Rattle.packer.specs.Packing.{told as pack-told, packAnswer, packSpace}
 use Rattle.packer.specs.declared.Packed.{Packed}
 use Rattle.packer.proofs.pack.Reads as pack
@@ -56,6 +66,25 @@ pub record PackCall (is ms vs old : List ℕ) (answer : Packed) (new : List ℕ)
   pub space : now (lent .1 .1 .1 .0) ≡ old
   pub after : now (left .1 .1 .1 .0) ≡ new
 
+-- `decode::decode`, lent the state s, which it only reads
+pub record DecodeCall (s : State) (answer : Decoded) : Type 0 where
+  pub lifetimes : Lfts 3
+  pub lent : Dens lifetimes decode-kinds.ps
+  pub left : AtExit (endedOf 3 decode-kinds.ps decode-kinds.r) lifetimes
+  pub promise : decode.Post lifetimes lent answer left
+  pub state : st (now (lent .0)) (now (lent .1 .0)) (now (lent .1 .1 .0)) ≡ s
+
+-- `fragment::draw`, lent the state s, which it only reads, for a fragment with these colours and depth over what is stored
+pub record DrawCall (s : State) (g : Given) (incoming : ℕ) (stored : Stored) (answer : Drawn) : Type 0 where
+  pub lifetimes : Lfts 3
+  pub lent : Dens lifetimes draw-kinds.ps
+  pub left : AtExit (endedOf 3 draw-kinds.ps draw-kinds.r) lifetimes
+  pub promise : draw.Post lifetimes lent answer left
+  pub state : st (now (lent .0)) (now (lent .1 .0)) (now (lent .1 .1 .0)) ≡ s
+  pub given : lent .1 .1 .1 .0 ≡ g
+  pub depth : lent .1 .1 .1 .1 .0 ≡ incoming
+  pub before : lent .1 .1 .1 .1 .1 .0 ≡ stored
+
 -- WHAT EACH IS THEN KNOWN TO ANSWER AND TO LEAVE
 
 pub write-call : {s t : State} {w : Write} {a : Written} → WriteCall s w a t → (write-told a ≡ writeAnswer s w) × (t ≡ writeState s w)
@@ -67,3 +96,10 @@ read-call c = rw (← c .state, ← c .list, ← c .after) (c .promise)
 pub pack-call : {is ms vs old new : List ℕ} {a : Packed} → PackCall is ms vs old a new
     → (pack-told a ≡ packAnswer is ms vs (length old)) × (new ≡ packSpace is ms vs old)
 pack-call c = rw (← c .ids, ← c .masks, ← c .values, ← c .space, ← c .after) (c .promise)
+
+pub decode-call : {s : State} {a : Decoded} → DecodeCall s a → a ≡ decodedOf s
+decode-call c = rw (← c .state) (c .promise .0)
+
+pub draw-call : {s : State} {g : Given} {incoming : ℕ} {stored : Stored} {a : Drawn} → DrawCall s g incoming stored a
+    → a ≡ drawnOf s g incoming stored
+draw-call c = rw (← c .state, ← c .given, ← c .depth, ← c .before) (c .promise .0)

@@ -34,8 +34,22 @@ use Rattle.packer.specs.declared.Packed.{Packed}
 use Rattle.packer.specs.declared.Packed.the-variants as packer
 use Rattle.packer.proofs.Once.{told-one as pack-told-one}
 use Rattle.demands.specs.Said.{Said}
+use Rattle.settings.specs.declared.records.Settings.{Settings}
+use Rattle.decode.specs.Decoded.{settingsOf, nameless, decodedOf, decodable}
+use Rattle.decode.specs.declared.Decoded.the-variants as decoded
+use Rattle.decode.proofs.Lowest.{held-named}
+use Rattle.decode.proofs.Cases.{decodable-held, else-refused}
+use Rattle.combiner.specs.declared.Given.{Given}
+use Rattle.stores.specs.declared.Stored.{Stored}
+use Rattle.fragment.specs.Drawn.{outcomeOf}
+use Rattle.fragment.specs.declared.Outcome.{Outcome}
+use Rattle.fragment.specs.declared.Drawn.the-variants as drawn
+use Rattle.fragment.proofs.Widths.{drawn-decoded, drawn-within}
+use Rattle.demands.specs.FragmentRefusals.{DecodeRefused, DrawRefused}
 use Rattle.demands.specs.Refusals.{ReadRefused, WriteRefused, PackRefused}
-use Rattle.demands.proofs.Calls.{WriteCall, ReadCall, PackCall, write-call, read-call, pack-call}
+use Rattle.demands.proofs.Calls.{WriteCall, ReadCall, PackCall, DecodeCall, DrawCall}
+use Rattle.demands.proofs.Calls.{write-call, read-call, pack-call, decode-call, draw-call}
+use Rattle.demands.proofs.FragmentRefusals.{decode-row, draw-row}
 use Rattle.demands.proofs.Reading.{refused-list, refused-write, accepted, accepted-only, leaves}
 use Rattle.demands.proofs.Refusals.{write-row, read-row}
 use Rattle.demands.proofs.RunRefusals.{pack-row}
@@ -62,6 +76,13 @@ pack-refuses {is} {ms} {vs} {old} {new} {why} c =
     let k = pack-call c in
     let e = sym (k .0) in
     (k .1 ∙ refused-pack is ms vs old (why .number) (why .place) e, pack-row is ms vs (length old) (why .number) (why .place) e)
+
+pub decode-refuses : {s : State} {why : Refusal} → DecodeCall s (decoded.Refused why) → DecodeRefused s (why .number) (why .place)
+decode-refuses {s} {why} c = decode-row s (why .number) (why .place) (sym (decode-call c))
+
+pub draw-refuses : {s : State} {g : Given} {incoming : ℕ} {stored : Stored} {why : Refusal}
+    → DrawCall s g incoming stored (drawn.Refused why) → DrawRefused s incoming (stored .depth) (why .number) (why .place)
+draw-refuses {s} {g} {incoming} {stored} {why} c = draw-row s incoming stored (why .number) (why .place) g (sym (draw-call c))
 
 -- DEMAND 2: "A list is accepted exactly when it is well formed and each write is allowed; what it leaves is what its expansion leaves,
 -- one masked write after another."
@@ -123,6 +144,21 @@ pack-then-read {is} {ms} {vs} {old} {new} {n} {s} {t} {r} p c z =
     let q = read-call c in
     let e = q .0 ∙ ap (readAnswer s) put ∙ back .0 ∙ ap answered (writes-length is ms vs (G .masks) (G .values)) in
     (told-one r (list-verdict.Accepted (length is)) e, q .1 ∙ ap (readState s) put ∙ back .2)
+
+held-settings : (s : State) (x : Settings) (t : Bool) → decodable s ≡ t → decodedOf s ≡ decoded.Held x → x ≡ settingsOf s
+held-settings s x true d e = let z = sym e ∙ decodable-held s d in cc
+held-settings s x false d e = let q = sym e ∙ else-refused s d in absurd (let z : _≡_ {A = ℕ} 0 1 = cc in omega arith)
+
+-- "Decoded state and fragment results are those of document 01's tables": of a state whose codes all have names
+pub decode-answers : {s : State} {x : Settings} → DecodeCall s (decoded.Held x) → (x ≡ settingsOf s) × ((j : ℕ) → nameless s j ≡ false)
+decode-answers {s} {x} c =
+    let e = sym (decode-call c) in (held-settings s x (decodable s) refl e, held-named s x e)
+
+pub draw-answers : {s : State} {g : Given} {incoming : ℕ} {stored : Stored} {o : Outcome} → DrawCall s g incoming stored (drawn.Done o)
+    → (decodedOf s ≡ decoded.Held (settingsOf s)) × (o ≡ outcomeOf (settingsOf s) g incoming stored)
+draw-answers {s} {g} {incoming} {stored} {o} c =
+    let d = drawn-decoded s g incoming stored o (sym (draw-call c)) in
+    (d .0, drawn-within (settingsOf s) g incoming stored o (d .1) .2)
 
 -- DEMAND 3: "For any run of at most 4,096 allowed writes the packer's list has exactly that expansion, and no accepted list with that
 -- expansion has fewer words. "No room" always and only when the lent space is shorter than that, with the words needed."

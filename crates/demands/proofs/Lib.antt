@@ -12,3 +12,4 @@ pub mod Examples
 pub mod Drawing
 pub mod Calls
 pub mod EndToEnd
+pub mod FromC

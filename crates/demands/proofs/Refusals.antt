@@ -14,7 +14,10 @@ use Rattle.numbers.specs.Answer.{Answer, refused, unlessFault}
 use Rattle.numbers.proofs.Answers.{told-apart, number-one, place-one}
 use Rattle.numbers.proofs.Picks.{pick-either}
 use Rattle.words.specs.Writes.{Write, jumps, portData, faultOf}
-use Rattle.words.specs.Commands.{whole, expand, commands}
+use Rattle.words.specs.Commands.{headerAt, whole, expand, commands}
+use Rattle.words.specs.Taken.{partsOf, headOf}
+use Rattle.words.specs.declared.Refusal.{Refusal}
+use Rattle.words.specs.declared.Head.the-variants as head
 use Rattle.registers.specs.State.{State, sized}
 use Rattle.registers.specs.Single.{refusalOf, atZero, writeAnswer}
 use Rattle.reader.specs.ListVerdict.{firstFault, commandFault, judge, verdict}
@@ -45,6 +48,19 @@ first-number [] = inl refl
 first-number (w ∷ ws) =
     let f = faultOf (w .id) (w .mask) in
     pick-either (Perhaps (3 ∷ 4 ∷ 5 ∷ [])) (eqb f 0) (first-number ws) (fault-number (w .id) (w .mask))
+
+-- A HEADER: 2 at the command's first word, where its words aren't all there
+
+by-words : (l : List ℕ) (at : ℕ) (b : Bool) (r : Refusal) → whole l at ≡ b
+    → pick b (head.Taken (partsOf (headerAt l at))) (head.Refused (record { number = 2; place = at })) ≡ head.Refused r
+    → (r .number ≡ 2) × (r .place ≡ at) × (whole l at ≡ false)
+by-words l at true r t e = absurd (let z : _≡_ {A = ℕ} 0 1 = cc in omega arith)
+by-words l at false r t e = (cc, cc, t)
+
+pub head-row : (l : List ℕ) (at : ℕ) (r : Refusal) → headOf l at ≡ head.Refused r
+    → (r .number ≡ 2) × (r .place ≡ at) × (whole l at ≡ false)
+unfolding headOf
+head-row l at r e = by-words l at (whole l at) r refl e
 
 -- A LIST
 

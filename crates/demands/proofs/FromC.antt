@@ -1,0 +1,133 @@
+-- What a C caller takes out of a call's one number, `pica_number` and `pica_value`, is the answer of the function below it, whole: so the rows of
+-- the table hold of the C functions too. Assumes nothing.
+use mathlib.Core.Path.{_≡_, refl, sym, ap, _∙_}
+use mathlib.Core.List.{List, [], _∷_}
+use mathlib.Core.Logic.{_⊎_, inl, inr, ⊎-elim}
+use Prim.Native.Nat.{ℕ, _/_, _%_, _≤_}
+use native.Mathlib.Omega.{arith}
+use lib.Dec.{eqb}
+use lib.ListN.{getD}
+use borrow.Author.Tests.{eq-eqb, ne-eqb}
+use Rattle.numbers.specs.Pick.{pick}
+use Rattle.numbers.specs.Answer.{Answer, answered, refused}
+use Rattle.numbers.proofs.Answers.{told-apart, number-one}
+use Rattle.words.specs.Writes.{Write}
+use Rattle.words.specs.declared.Refusal.{Refusal}
+use Rattle.registers.specs.State.{State}
+use Rattle.registers.specs.Single.{writeAnswer}
+use Rattle.reader.specs.Read.{readAnswer}
+use Rattle.packer.specs.Packing.{packAnswer}
+use Rattle.decode.specs.Decoded.{decodedOf}
+use Rattle.decode.specs.declared.Decoded.{Decoded}
+use Rattle.decode.specs.declared.Decoded.the-variants as decoded
+use Rattle.stores.specs.Tests.{verdictNumber}
+use Rattle.fragment.specs.declared.Drawn.{Drawn}
+use Rattle.fragment.specs.declared.Drawn.the-variants as drawn
+use Rattle.capi.specs.Calls.{call, answer, decodeCall, givenOf, storedOf, fragmentOf, fragmentCall}
+use Rattle.capi.proofs.Uncut.{valueIn, read-uncut, write-uncut, pack-uncut, placeOf, decode-uncut, drawnValue, fragment-uncut}
+use Rattle.demands.specs.Refusals.{In, FaultNumber, ReadRefused, WriteRefused, PackRefused}
+use Rattle.demands.specs.FragmentRefusals.{DecodeRefused, DrawRefused}
+use Rattle.demands.proofs.Refusals.{read-row, write-row}
+use Rattle.demands.proofs.RunRefusals.{pack-row}
+use Rattle.demands.proofs.FragmentRefusals.{decode-row, draw-row}
+
+-- high 32 bits the refusal's number, 0 for none; low 32 bits the answer or the place
+abbrev pub asTaken : ℕ → Answer
+asTaken r =
+    let number = r / 0x100000000 in
+    let value = r % 0x100000000 in
+    pick (eqb number 0) (answered value) (refused number value)
+
+-- no refusal has the number 0
+abbrev Numbered : Answer → Type 0
+Numbered a = (n p : ℕ) → a ≡ refused n p → n ≡ 0 → ⊥
+
+taken : (a : Answer) → valueIn a ≤ 65536 → Numbered a → asTaken (answer a) ≡ a
+taken (answered n) h z =
+    let d : call 0 n / 0x100000000 ≡ 0 = omega arith in
+    let m : call 0 n % 0x100000000 ≡ n = omega arith in
+    rw (eq-eqb (call 0 n / 0x100000000) 0 d) (ap answered m)
+taken (refused r p) h z =
+    let d : call r p / 0x100000000 ≡ r = omega arith in
+    let m : call r p % 0x100000000 ≡ p = omega arith in
+    rw (ne-eqb (call r p / 0x100000000) 0 (λ e. z r p refl (sym d ∙ e)), d, m)
+
+-- the rows have other numbers
+fault-numbered : (n : ℕ) → FaultNumber n → n ≡ 0 → ⊥
+fault-numbered n (inl e) z = omega arith
+fault-numbered n (inr (inl e)) z = omega arith
+fault-numbered n (inr (inr (inl e))) z = omega arith
+fault-numbered n (inr (inr (inr e))) z = e
+
+read-numbered : (s : State) (l : List ℕ) (n p : ℕ) → ReadRefused s l n p → n ≡ 0 → ⊥
+read-numbered s l n p (inl r) z = omega (arith, r .0)
+read-numbered s l n p (inr (inl r)) z = omega (arith, r .0)
+read-numbered s l n p (inr (inr r)) z = ⊎-elim (λ x. omega (arith, x .0)) (λ x. fault-numbered n (x .1) z) (r .why)
+
+write-numbered : (s : State) (w : Write) (n p : ℕ) → WriteRefused s w n p → n ≡ 0 → ⊥
+write-numbered s w n p r z =
+    ⊎-elim (λ x. omega (arith, x .0)) (⊎-elim (λ x. omega (arith, x .0)) (λ x. fault-numbered n (x .0) z)) (r .why)
+
+one-numbered : (n : ℕ) → In n (9 ∷ 3 ∷ 4 ∷ 5 ∷ []) → n ≡ 0 → ⊥
+one-numbered n (inl e) z = omega arith
+one-numbered n (inr f) z = fault-numbered n f z
+
+pack-numbered : (is ms vs : List ℕ) (room n p : ℕ) → PackRefused is ms vs room n p → n ≡ 0 → ⊥
+pack-numbered is ms vs room n p (inl (inl r)) z = omega (arith, r .0)
+pack-numbered is ms vs room n p (inl (inr (inl r))) z = omega (arith, r .0)
+pack-numbered is ms vs room n p (inl (inr (inr r))) z = one-numbered n (r .why .0) z
+pack-numbered is ms vs room n p (inr r) z = omega (arith, r .0)
+
+-- WHAT IS TAKEN OUT of the numbers that the promises of `pica_read`, `pica_write` and `pica_pack` give
+pub read-taken : (s : State) (l : List ℕ) → asTaken (answer (readAnswer s l)) ≡ readAnswer s l
+read-taken s l = taken (readAnswer s l) (read-uncut s l) (λ n p e. read-numbered s l n p (read-row s l n p e))
+
+pub write-taken : (s : State) (w : Write) → asTaken (answer (writeAnswer s w)) ≡ writeAnswer s w
+write-taken s w = taken (writeAnswer s w) (write-uncut s w) (λ n p e. write-numbered s w n p (write-row s w n p e))
+
+pub pack-taken : (is ms vs : List ℕ) (room : ℕ) → asTaken (answer (packAnswer is ms vs room)) ≡ packAnswer is ms vs room
+pack-taken is ms vs room =
+    taken (packAnswer is ms vs room) (pack-uncut is ms vs room) (λ n p e. pack-numbered is ms vs room n p (pack-row is ms vs room n p e))
+
+-- of those that the promises of `pica_decode` and `pica_fragment` give
+abbrev pub decodeAnswer : Decoded → Answer
+decodeAnswer (decoded.Held x) = answered 0
+decodeAnswer (decoded.Refused r) = refused (r .number) (r .place)
+
+abbrev pub fragmentAnswer : Drawn → Answer
+fragmentAnswer (drawn.Done o) = answered (verdictNumber (o .verdict))
+fragmentAnswer (drawn.Refused r) = refused (r .number) (r .place)
+
+decode-numbered : (s : State) (n p : ℕ) → DecodeRefused s n p → n ≡ 0 → ⊥
+decode-numbered s n p (inl r) z = omega (arith, r .0)
+decode-numbered s n p (inr r) z = omega (arith, r .number)
+
+draw-numbered : (s : State) (incoming stored n p : ℕ) → DrawRefused s incoming stored n p → n ≡ 0 → ⊥
+draw-numbered s incoming stored n p (inl r) z = decode-numbered s n p r z
+draw-numbered s incoming stored n p (inr (inl r)) z = omega (arith, r .number)
+draw-numbered s incoming stored n p (inr (inr r)) z = omega (arith, r .number)
+
+by-decoded : (d : Decoded) → placeOf d ≤ 0x117 → ((r : Refusal) → d ≡ decoded.Refused r → r .number ≡ 0 → ⊥)
+    → asTaken (decodeCall d) ≡ decodeAnswer d
+by-decoded (decoded.Held x) h z = refl
+by-decoded (decoded.Refused r) h z =
+    taken (refused (r .number) (r .place)) (omega arith) (λ n p e y. z r refl (number-one e ∙ y))
+
+pub decode-taken : (s : State) → asTaken (decodeCall (decodedOf s)) ≡ decodeAnswer (decodedOf s)
+decode-taken s =
+    by-decoded (decodedOf s) (decode-uncut s) (λ r e. decode-numbered s (r .number) (r .place) (decode-row s (r .number) (r .place) e))
+
+by-drawn : (d : Drawn) → drawnValue d ≤ 0x117 → ((r : Refusal) → d ≡ drawn.Refused r → r .number ≡ 0 → ⊥)
+    → asTaken (fragmentCall d) ≡ fragmentAnswer d
+by-drawn (drawn.Done o) h z = taken (answered (verdictNumber (o .verdict))) (omega arith) (λ n p e y. told-apart e)
+by-drawn (drawn.Refused r) h z =
+    taken (refused (r .number) (r .place)) (omega arith) (λ n p e y. z r refl (number-one e ∙ y))
+
+pub fragment-taken : (s : State) (words : List ℕ) → asTaken (fragmentCall (fragmentOf s words)) ≡ fragmentAnswer (fragmentOf s words)
+fragment-taken s words =
+    let g = givenOf words in
+    let incoming = getD words 7 0 in
+    let stored = storedOf words in
+    by-drawn (fragmentOf s words) (fragment-uncut s g incoming stored)
+    (λ r e.
+    draw-numbered s incoming (stored .depth) (r .number) (r .place) (draw-row s incoming stored (r .number) (r .place) g e))
