@@ -152,3 +152,28 @@ fn a_command_carries_256_writes() {
         assert_eq!(state.cells()[0x41] as usize, writes);
     }
 }
+
+/// "The empty list is well formed"; a run of no writes is packed into it. An empty slice's pointer is not null and leads nowhere.
+#[test]
+fn the_empty_list() {
+    let mut state = State::default();
+    assert_eq!(state.read(&[]), Ok(0));
+    assert_eq!(state, State::default());
+    assert_eq!(packed(&[]), Ok(vec![]));
+    assert_eq!(pica::pack(&[], &[], &[], &mut []), Ok(0));
+    assert_eq!(
+        pica::pack(&[0x41], &[15], &[7], &mut []),
+        Err(refused(10, 2))
+    );
+}
+
+/// The default write sets no byte.
+#[test]
+fn the_default_write() {
+    let mut state = State::default();
+    state.cells_mut().fill(0x5A5A_5A5A);
+    let before = state.clone();
+    let Write { id, mask, value } = Write::default();
+    assert_eq!(state.write(id, mask, value), Ok(()));
+    assert_eq!(state, before);
+}
