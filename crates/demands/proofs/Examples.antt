@@ -1,6 +1,6 @@
 -- The P examples of document 01, proved together. Assumes nothing.
 use mathlib.Core.Path.{_≡_, refl}
-use mathlib.Core.List.{List, map}
+use mathlib.Core.List.{map}
 use Rattle.words.specs.Writes.{faultOf}
 use Rattle.words.specs.Commands.{run, places, commands, join, expansion}
 use Rattle.registers.specs.Held.{held, bitsIn, bitsOf}

@@ -3,10 +3,10 @@ use mathlib.Core.Path.{_≡_, refl, sym, ap, _∙_}
 use mathlib.Core.Bool.{Bool, true, false, not, _&&_, false≢true}
 use mathlib.Core.List.{List, [], _∷_}
 use mathlib.Core.Logic.{_⊎_, inl, inr}
-use Prim.Native.Nat.{ℕ, _≤_, _<_}
+use Prim.Native.Nat.{ℕ}
 use native.Mathlib.Omega.{arith}
 use lib.Dec.{T, eqb, ltb}
-use borrow.Author.Tests.{eqb-true, eqb-false, ltb-true, ltb-false, eq-eqb}
+use borrow.Author.Tests.{eqb-true, ltb-true, ltb-false, eq-eqb}
 use Rattle.numbers.specs.Pick.{pick}
 use Rattle.numbers.proofs.Tests.{both}
 use Rattle.registers.specs.State.{State, sized}
@@ -14,8 +14,7 @@ use Rattle.registers.specs.Held.{held, bitsIn, bitsOf}
 use Rattle.words.specs.declared.Refusal.{Refusal}
 use Rattle.settings.specs.declared.records.Settings.{Settings}
 use Rattle.decode.specs.Codes.{Check, stageChecks, frameChecks, checks, lacksAt}
-use Rattle.decode.specs.Decoded.{settingsOf, nameless, namelessId, refusal, decodedOf, decodable, refusalOf, numberOf, valuesOf}
-use Rattle.decode.specs.declared.Decoded.{Decoded}
+use Rattle.decode.specs.Decoded.{settingsOf, namelessId, refusal, decodedOf, decodable, refusalOf, numberOf, valuesOf}
 use Rattle.decode.specs.declared.Decoded.the-variants as decoded
 use Rattle.decode.proofs.Lowest.{refused-lowest}
 use Rattle.decode.proofs.Cases.{decodable-held, else-refused}
@@ -26,7 +25,7 @@ use Rattle.fragment.specs.Drawn.{unbuiltAt, unbuiltId, outcomeOf, largest, draw
 use Rattle.fragment.specs.Drawn.{refusal as draw-refusal, numberOf as draw-number, valuesOf as draw-values}
 use Rattle.fragment.specs.declared.Outcome.{Outcome}
 use Rattle.fragment.specs.declared.Drawn.the-variants as drawn
-use Rattle.demands.specs.FragmentRefusals.{HeldId, CodeRefused, DecodeRefused, UnbuiltRefused, DepthRefused, DrawRefused}
+use Rattle.demands.specs.FragmentRefusals.{HeldId, DecodeRefused, DepthRefused, DrawRefused}
 
 -- THE IDS ARE HELD
 
