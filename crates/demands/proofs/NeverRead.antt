@@ -44,12 +44,13 @@ light-cells-long c = length-set c 0x1C5 (rise 256 (getD c 0x1C5 0))
 light-long : (c l : List ℕ) (v : ℕ) → length (lightEntries c l v) ≡ length l
 unfolding lightEntries
 light-long c l v =
-    pick-either (λ k. length k ≡ length l) (named (lightTable c)) (length-set l (lightPlace c) (entry (getD l (lightPlace c) 0) v)) refl
+    pick-either (λ (k : List ℕ). length k ≡ length l) (named (lightTable c))
+    (length-set l (lightPlace c) (entry (getD l (lightPlace c) 0) v)) refl
 
 cells-long : (c : List ℕ) (i e v : ℕ) → length (cellsAfter c i e v) ≡ length c
 unfolding cellsAfter
 cells-long c i e v =
-    pick-either (λ k. length k ≡ length c) (eqb (bitsOf i) 0) refl (length-set c i (merge (bitAnd (bitsOf i) e) (getD c i 0) v))
+    pick-either (λ (k : List ℕ). length k ≡ length c) (eqb (bitsOf i) 0) refl (length-set c i (merge (bitAnd (bitsOf i) e) (getD c i 0) v))
 
 module _ (s t : State) (a : Alike s t) where
   cells-alike : (i m v j : ℕ) → heldIn (cellsAfter (s .cells) i (spread m) v) j ≡ heldIn (cellsAfter (t .cells) i (spread m) v) j
