@@ -57,12 +57,12 @@ pub fn parts(h: u32) -> Header
     }
 }
 
-// The words that a command with this header takes, the padding word too.
+// The words that a command with this header takes: two and the extra parameters, rounded up to an even number by the padding word.
 pub fn words_taken(h: Header) -> usize
     ensures { λ r. ⌜ r ≡ wordsWith (h .count) ⌝ }
 {
     let count = h.count as usize;
-    2 + count + (2 + count) % 2
+    (count + 3) / 2 * 2
 }
 
 pub enum Head {
