@@ -7,14 +7,15 @@ use mathlib.Core.Logic.{_⊎_, inl, inr}
 use Prim.Native.Nat.{ℕ, zero, suc, _≤_, _<_}
 use native.Mathlib.Decide.{decLe}
 use native.Mathlib.Omega.{arith}
-use lib.Dec.{leb}
+use lib.Dec.{leb, ltb}
 use lib.ListN.{length, take, drop}
 use lib.Seq.{take-at, drop-at}
-use borrow.Author.Tests.{leb-true}
+use borrow.Author.Tests.{leb-true, ltb-false, eq-eqb}
 use Rattle.numbers.specs.Pick.{pick}
 use Rattle.numbers.specs.Answer.{answered, refused}
 use Rattle.numbers.proofs.Answers.{told-apart}
-use Rattle.words.specs.Writes.{Write}
+use Rattle.words.specs.Writes.{Write, faultOf, allowed}
+use Rattle.words.proofs.Laws.{allowed-fault}
 use Rattle.words.specs.Commands.{expansion, wellFormed}
 use Rattle.words.specs.declared.Refusal.{Refusal}
 use Rattle.registers.specs.State.{State, sized}
@@ -38,18 +39,18 @@ use Rattle.settings.specs.declared.records.Settings.{Settings}
 use Rattle.decode.specs.Decoded.{settingsOf, nameless, decodedOf, decodable}
 use Rattle.decode.specs.declared.Decoded.the-variants as decoded
 use Rattle.decode.proofs.Lowest.{held-named}
-use Rattle.decode.proofs.Cases.{decodable-held, else-refused}
+use Rattle.decode.proofs.Cases.{decodable-sized, decodable-held, else-refused}
 use Rattle.combiner.specs.declared.Given.{Given}
 use Rattle.stores.specs.declared.Stored.{Stored}
-use Rattle.fragment.specs.Drawn.{outcomeOf}
+use Rattle.fragment.specs.Drawn.{unbuiltAt, outcomeOf}
 use Rattle.fragment.specs.declared.Outcome.{Outcome}
 use Rattle.fragment.specs.declared.Drawn.the-variants as drawn
 use Rattle.fragment.proofs.Widths.{drawn-decoded, drawn-within}
-use Rattle.demands.specs.FragmentRefusals.{DecodeRefused, DrawRefused}
-use Rattle.demands.specs.Refusals.{ReadRefused, WriteRefused, PackRefused}
+use Rattle.demands.specs.FragmentRefusals.{DecodeRefused, DrawRefused, topOf}
+use Rattle.demands.specs.Refusals.{ReadRefused, WriteRefused, OneLength, PackRefused}
 use Rattle.demands.proofs.Calls.{WriteCall, ReadCall, PackCall, DecodeCall, DrawCall}
 use Rattle.demands.proofs.Calls.{write-call, read-call, pack-call, decode-call, draw-call}
-use Rattle.demands.proofs.FragmentRefusals.{decode-row, draw-row}
+use Rattle.demands.proofs.FragmentRefusals.{decode-row, draw-row, done-only}
 use Rattle.demands.proofs.Reading.{refused-list, refused-write, accepted, accepted-only, leaves}
 use Rattle.demands.proofs.Refusals.{write-row, read-row}
 use Rattle.demands.proofs.RunRefusals.{pack-row}
@@ -120,13 +121,29 @@ read-accepts {s} {t} {l} {r} c a =
     let e = accepted s l (a .lengths) (a .short) (a .form) (a .writes) in
     (told-one r (list-verdict.Accepted (length (expansion l))) (k .0 ∙ e), k .1 ∙ leaves s l (a .lengths) (a .short) _ e)
 
--- a single write that is done leaves what the write leaves
+-- a single write that is done is allowed, and leaves what the write leaves
 by-number : (n : ℕ) (s t u : State) → answered 0 ≡ atZero n → u ≡ unless n t s → (n ≡ 0) × (u ≡ t)
 by-number zero s t u e f = (refl, f)
 by-number (suc n) s t u e f = absurd (told-apart e)
 
-pub write-leaves : {s t : State} {w : Write} → WriteCall s w written.Done t → t ≡ apply s w
-write-leaves {s} {t} {w} c = let k = write-call c in by-number (refusalOf s w) s (apply s w) t (k .0) (k .1) .1
+by-mask : (s : State) (w : Write) (a b : Bool) → sized s ≡ a → ltb 15 (w .mask) ≡ b → pick a (pick b 9 (faultOf (w .id) (w .mask))) 6 ≡ 0
+    → (sized s ≡ true) × (w .mask ≤ 15) × (allowed (w .id) (w .mask) ≡ true)
+by-mask s w true true t u e = absurd (omega arith)
+by-mask s w true false t u e =
+    (t, ltb-false 15 (w .mask) u, allowed-fault (w .id) (w .mask) ∙ eq-eqb (faultOf (w .id) (w .mask)) 0 e)
+by-mask s w false b t u e = absurd (omega arith)
+
+not-refused : (s : State) (w : Write) → refusalOf s w ≡ 0 → (sized s ≡ true) × (w .mask ≤ 15) × (allowed (w .id) (w .mask) ≡ true)
+unfolding refusalOf
+not-refused s w e = by-mask s w (sized s) (ltb 15 (w .mask)) refl refl e
+
+pub write-leaves : {s t : State} {w : Write} → WriteCall s w written.Done t
+    → (sized s ≡ true) × (w .mask ≤ 15) × (allowed (w .id) (w .mask) ≡ true) × (t ≡ apply s w)
+write-leaves {s} {t} {w} c =
+    let k = write-call c in
+    let r = by-number (refusalOf s w) s (apply s w) t (k .0) (k .1) in
+    let a = not-refused s w (r .0) in
+    (a .0, a .1, a .2, r .1)
 
 -- "A packed list reads back as the writes that were given": what `pack` put into the space, read by `read` into any state
 pub pack-then-read : {is ms vs old new : List ℕ} {n : ℕ} {s t : State} {r : ListVerdict} → PackCall is ms vs old (packer.Words n) new
@@ -135,7 +152,7 @@ pack-then-read {is} {ms} {vs} {old} {new} {n} {s} {t} {r} p c z =
     let k = pack-call p in
     let a = answered-then is ms vs (length old) n (sym (k .0)) in
     let G = a .0 in
-    let level : (length is ≡ length ms) × (length is ≡ length vs) = (G .masks, G .values) in
+    let level : OneLength is ms vs = (G .masks, G .values) in
     let said = given-said is ms vs G in
     let fits = room is ms vs level (G .few) said old (omega (arith, a .1, a .2)) in
     let put : take n new ≡ packed (writes is ms vs) =
@@ -145,23 +162,30 @@ pack-then-read {is} {ms} {vs} {old} {new} {n} {s} {t} {r} p c z =
     let e = q .0 ∙ ap (readAnswer s) put ∙ back .0 ∙ ap answered (writes-length is ms vs (G .masks) (G .values)) in
     (told-one r (list-verdict.Accepted (length is)) e, q .1 ∙ ap (readState s) put ∙ back .2)
 
-held-settings : (s : State) (x : Settings) (t : Bool) → decodable s ≡ t → decodedOf s ≡ decoded.Held x → x ≡ settingsOf s
-held-settings s x true d e = let z = sym e ∙ decodable-held s d in cc
+held-settings : (s : State) (x : Settings) (t : Bool) → decodable s ≡ t → decodedOf s ≡ decoded.Held x
+    → (decodable s ≡ true) × (x ≡ settingsOf s)
+held-settings s x true d e = let z = sym e ∙ decodable-held s d in (d, cc)
 held-settings s x false d e = let q = sym e ∙ else-refused s d in absurd (let z : _≡_ {A = ℕ} 0 1 = cc in omega arith)
 
--- "Decoded state and fragment results are those of document 01's tables": of a state whose codes all have names
-pub decode-answers : {s : State} {x : Settings} → DecodeCall s (decoded.Held x) → (x ≡ settingsOf s) × ((j : ℕ) → nameless s j ≡ false)
+-- "Decoded state and fragment results are those of document 01's tables": of a state whose codes all have names, and for a fragment one that
+-- is built, and depths that the format has
+pub decode-answers : {s : State} {x : Settings} → DecodeCall s (decoded.Held x)
+    → (sized s ≡ true) × ((j : ℕ) → nameless s j ≡ false) × (x ≡ settingsOf s)
 decode-answers {s} {x} c =
-    let e = sym (decode-call c) in (held-settings s x (decodable s) refl e, held-named s x e)
+    let e = sym (decode-call c) in
+    let h = held-settings s x (decodable s) refl e in
+    (decodable-sized s (h .0), held-named s x e, h .1)
 
 pub draw-answers : {s : State} {g : Given} {incoming : ℕ} {stored : Stored} {o : Outcome} → DrawCall s g incoming stored (drawn.Done o)
-    → (decodedOf s ≡ decoded.Held (settingsOf s)) × (o ≡ outcomeOf (settingsOf s) g incoming stored)
+    → (decodedOf s ≡ decoded.Held (settingsOf s)) × ((j : ℕ) → unbuiltAt (settingsOf s) j ≡ false)
+    × (incoming ≤ topOf s) × (stored .depth ≤ topOf s) × (o ≡ outcomeOf (settingsOf s) g incoming stored)
 draw-answers {s} {g} {incoming} {stored} {o} c =
     let d = drawn-decoded s g incoming stored o (sym (draw-call c)) in
-    (d .0, drawn-within (settingsOf s) g incoming stored o (d .1) .2)
+    let r = done-only s incoming stored g o (d .1) in
+    (d .0, r .0, r .1, r .2, drawn-within (settingsOf s) g incoming stored o (d .1) .2)
 
--- DEMAND 3: "For any run of at most 4,096 allowed writes the packer's list has exactly that expansion, and no accepted list with that
--- expansion has fewer words. "No room" always and only when the lent space is shorter than that, with the words needed."
+-- DEMAND 3: "For any run of at most 4,096 writes that some accepted list could carry the packer's list has exactly that expansion, and no
+-- accepted list with that expansion has fewer words. "No room" always and only when the lent space is shorter than that, with the words needed."
 
 -- the list is in the space, shortest, and the space past it is as it was
 pub record PackedInto (ws : List Write) (old new : List ℕ) (n : ℕ) : Type 0 where
@@ -177,7 +201,7 @@ pub record NoRoom (ws : List Write) (old new : List ℕ) (n : ℕ) : Type 0 wher
   pub met : (l : List ℕ) × Shortest ws l × (length l ≡ n)
 
 module _ {is ms vs old new : List ℕ} {r : Packed} (p : PackCall is ms vs old r new)
-    (level : (length is ≡ length ms) × (length is ≡ length vs)) (few : length is ≤ 4096) (said : Said (writes is ms vs)) where
+    (level : OneLength is ms vs) (few : length is ≤ 4096) (said : Said (writes is ms vs)) where
   abbrev ws : List Write
   ws = writes is ms vs
 
@@ -218,3 +242,10 @@ module _ {is ms vs old new : List ℕ} {r : Packed} (p : PackCall is ms vs old r
       go : Dec (need ≤ length old) → Fits ⊎ Lacks
       go (yes h) = inl (fits h)
       go (no h) = inr (lacks (omega arith))
+
+-- and a run that is packed, or for which there is no room, is one of those
+pub packs-only : {is ms vs old new : List ℕ} {n : ℕ} → PackCall is ms vs old (packer.Words n) new
+    → OneLength is ms vs × (length is ≤ 4096) × Said (writes is ms vs)
+packs-only {is} {ms} {vs} {old} {new} {n} c =
+    let G = answered-then is ms vs (length old) n (sym (pack-call c .0)) .0 in
+    ((G .masks, G .values), G .few, given-said is ms vs G)

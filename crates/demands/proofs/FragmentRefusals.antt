@@ -3,7 +3,7 @@ use mathlib.Core.Path.{_≡_, refl, sym, ap, _∙_}
 use mathlib.Core.Bool.{Bool, true, false, not, _&&_, false≢true}
 use mathlib.Core.List.{List, [], _∷_}
 use mathlib.Core.Logic.{_⊎_, inl, inr}
-use Prim.Native.Nat.{ℕ}
+use Prim.Native.Nat.{ℕ, _≤_}
 use native.Mathlib.Omega.{arith}
 use lib.Dec.{T, eqb, ltb}
 use borrow.Author.Tests.{eqb-true, ltb-true, ltb-false, eq-eqb}
@@ -24,8 +24,9 @@ use Rattle.stores.specs.declared.Stored.{Stored}
 use Rattle.fragment.specs.Drawn.{unbuiltAt, unbuiltId, outcomeOf, largest, drawnWith, drawnFrom, drawnOf}
 use Rattle.fragment.specs.Drawn.{refusal as draw-refusal, numberOf as draw-number, valuesOf as draw-values}
 use Rattle.fragment.specs.declared.Outcome.{Outcome}
+use Rattle.fragment.specs.declared.Drawn.{Drawn}
 use Rattle.fragment.specs.declared.Drawn.the-variants as drawn
-use Rattle.demands.specs.FragmentRefusals.{HeldId, DecodeRefused, DepthRefused, DrawRefused}
+use Rattle.demands.specs.FragmentRefusals.{HeldId, topOf, DecodeRefused, DepthRefused, DrawRefused}
 
 -- THE IDS ARE HELD
 
@@ -85,71 +86,112 @@ unbuilt-held x i e = by-unbuilt i (eqb i 0xE0) (eqb i 0x100) (eqb i 0x117) _ _ _
 
 by-lengths : (s : State) (n p : ℕ) (a b : Bool) → sized s ≡ a
     → pick a (pick b (decoded.Held (settingsOf s)) (refusal 13 (namelessId s))) (refusal 6 0) ≡ refusal n p
-    → ((n ≡ 6) × (p ≡ 0) × (sized s ≡ false)) ⊎ (n ≡ 13)
+    → ((n ≡ 6) × (p ≡ 0) × (sized s ≡ false)) ⊎ ((n ≡ 13) × (sized s ≡ true))
 by-lengths s n p true true t e = absurd (let z : _≡_ {A = ℕ} 0 1 = cc in omega arith)
-by-lengths s n p true false t e = inr (sym (ap numberOf e))
+by-lengths s n p true false t e = inr (sym (ap numberOf e), t)
 by-lengths s n p false b t e = let z = ap valuesOf e in inl (sym (ap numberOf e), cc, t)
 
-number-row : (s : State) (n p : ℕ) → decodedOf s ≡ refusal n p → ((n ≡ 6) × (p ≡ 0) × (sized s ≡ false)) ⊎ (n ≡ 13)
+number-row : (s : State) (n p : ℕ) → decodedOf s ≡ refusal n p
+    → ((n ≡ 6) × (p ≡ 0) × (sized s ≡ false)) ⊎ ((n ≡ 13) × (sized s ≡ true))
 unfolding decodedOf
 number-row s n p e = by-lengths s n p (sized s) (eqb (namelessId s) 0) refl e
 
 pub decode-row : (s : State) (n p : ℕ) → decodedOf s ≡ refusal n p → DecodeRefused s n p
 decode-row s n p e = go (number-row s n p e)
   where
-    go : ((n ≡ 6) × (p ≡ 0) × (sized s ≡ false)) ⊎ (n ≡ 13) → DecodeRefused s n p
+    go : ((n ≡ 6) × (p ≡ 0) × (sized s ≡ false)) ⊎ ((n ≡ 13) × (sized s ≡ true)) → DecodeRefused s n p
     go (inl r) = inl r
     go (inr z) =
-        let l = refused-lowest s p (rw z at e) in
+        let l = refused-lowest s p (rw (z .0) at e) in
         let h = lacking-held (checks (settingsOf s)) p (checks-held (settingsOf s)) (l .0) in
-        inr (record { number = z; held = h; why = l .0; lowest = l .1 })
+        inr (record { number = z .0; lengths = z .1; held = h; why = l .0; lowest = l .1 })
 
 -- A FRAGMENT
 
-module _ (s : State) (incoming : ℕ) (stored : Stored) (n p : ℕ) where
-  abbrev top : ℕ
-  top = largest (settingsOf s .framebuffer .buffers .«depth_format»)
+-- where no register is named, none asks for what is not built
+none-unbuilt : (e0 r100 r117 : Bool) → pick e0 0xE0 (pick r100 0x100 (pick r117 0x117 0)) ≡ 0 → (a b c : Bool)
+    → pick a e0 (pick b r100 (pick c r117 false)) ≡ false
+none-unbuilt true r100 r117 e a b c = absurd (omega arith)
+none-unbuilt false true r117 e a b c = absurd (omega arith)
+none-unbuilt false false true e a b c = absurd (omega arith)
+none-unbuilt false false false e true b c = refl
+none-unbuilt false false false e false true c = refl
+none-unbuilt false false false e false false true = refl
+none-unbuilt false false false e false false false = refl
 
-  -- what the tests after decoding leave: 14, or 12 by one of the depths
-  abbrev Later : Type 0
-  Later = (n ≡ 14) ⊎ DepthRefused top incoming (stored .depth) n p
+all-built : (x : Settings) → unbuiltId x ≡ 0 → (j : ℕ) → unbuiltAt x j ≡ false
+unfolding unbuiltId unbuiltAt
+all-built x e j = none-unbuilt _ _ _ e (eqb j 0xE0) (eqb j 0x100) (eqb j 0x117)
 
-  by-depth : (o : Outcome) (a b c : Bool) → ltb top incoming ≡ b → ltb top (stored .depth) ≡ c
-      → pick a (pick b (draw-refusal 12 0) (pick c (draw-refusal 12 1) (drawn.Done o))) (draw-refusal 14 (unbuiltId (settingsOf s)))
-      ≡ draw-refusal n p → Later
-  by-depth o true true c t u e =
-      let z = ap draw-values e in
-      inr (record { number = sym (ap draw-number e); why = inl (cc, ltb-true top incoming t) })
-  by-depth o true false true t u e =
-      let z = ap draw-values e in
-      inr (record { number = sym (ap draw-number e); why = inr (cc, ltb-false top incoming t, ltb-true top (stored .depth) u) })
-  by-depth o true false false t u e = absurd (let z : _≡_ {A = ℕ} 0 1 = cc in omega arith)
-  by-depth o false b c t u e = inl (sym (ap draw-number e))
+module _ (s : State) (incoming : ℕ) (stored : Stored) where
+  abbrev x : Settings
+  x = settingsOf s
 
-  with-row : (g : Given) → drawnWith (settingsOf s) g incoming stored ≡ draw-refusal n p → Later
-  unfolding drawnWith
-  with-row g e =
-      by-depth (outcomeOf (settingsOf s) g incoming stored) (eqb (unbuiltId (settingsOf s)) 0) (ltb top incoming) (ltb top (stored .depth))
-      refl refl e
+  -- the tests after decoding, in their order
+  abbrev Tested : Drawn → Bool → Bool → Bool → Drawn
+  Tested done a b c = pick a (pick b (draw-refusal 12 0) (pick c (draw-refusal 12 1) done)) (draw-refusal 14 (unbuiltId x))
+
+  module _ (n p : ℕ) (held : decodedOf s ≡ decoded.Held (settingsOf s)) where
+    -- 14, or 12 by one of the depths
+    abbrev Later : Type 0
+    Later = (n ≡ 14) ⊎ DepthRefused s incoming (stored .depth) n p
+
+    by-depth : (o : Outcome) (a b c : Bool) → eqb (unbuiltId x) 0 ≡ a → ltb (topOf s) incoming ≡ b → ltb (topOf s) (stored .depth) ≡ c
+        → Tested (drawn.Done o) a b c ≡ draw-refusal n p → Later
+    by-depth o true true c v t u e =
+        let z = ap draw-values e in
+        let built = all-built x (eqb-true (unbuiltId x) 0 v) in
+        inr (record { number = sym (ap draw-number e); decoded = held; built = built; why = inl (cc, ltb-true (topOf s) incoming t) })
+    by-depth o true false true v t u e =
+        let z = ap draw-values e in
+        let built = all-built x (eqb-true (unbuiltId x) 0 v) in
+        let why = inr (cc, ltb-false (topOf s) incoming t, ltb-true (topOf s) (stored .depth) u) in
+        inr (record { number = sym (ap draw-number e); decoded = held; built = built; why = why })
+    by-depth o true false false v t u e = absurd (let z : _≡_ {A = ℕ} 0 1 = cc in omega arith)
+    by-depth o false b c v t u e = inl (sym (ap draw-number e))
+
+    with-row : (g : Given) → drawnWith (settingsOf s) g incoming stored ≡ draw-refusal n p → Later
+    unfolding drawnWith
+    with-row g e =
+        by-depth (outcomeOf x g incoming stored) (eqb (unbuiltId x) 0) (ltb (topOf s) incoming) (ltb (topOf s) (stored .depth)) refl refl refl
+        e
 
   -- by what decoding gives: a fragment hands its refusals on
-  same : (r : Refusal) → drawn.Refused r ≡ draw-refusal n p → r ≡ record { number = n; place = p }
-  same r e = cc
+  same : (r : Refusal) (n p : ℕ) → drawn.Refused r ≡ draw-refusal n p → r ≡ record { number = n; place = p }
+  same r n p e = cc
 
-  from-decoded : (g : Given) (t : Bool) → decodable s ≡ t → drawnOf s g incoming stored ≡ draw-refusal n p → DecodeRefused s n p ⊎ Later
+  from-decoded : (n p : ℕ) (g : Given) (t : Bool) → decodable s ≡ t → drawnOf s g incoming stored ≡ draw-refusal n p
+      → DecodeRefused s n p ⊎ (n ≡ 14) ⊎ DepthRefused s incoming (stored .depth) n p
   unfolding drawnFrom
-  from-decoded g true d e = inr (with-row g (rw (decodable-held s d) at e))
-  from-decoded g false d e =
+  from-decoded n p g true d e = let h = decodable-held s d in inr (with-row n p h g (rw h at e))
+  from-decoded n p g false d e =
       let q = else-refused s d in
-      let r : refusalOf s ≡ record { number = n; place = p } = same (refusalOf s) (rw q at e) in
+      let r : refusalOf s ≡ record { number = n; place = p } = same (refusalOf s) n p (rw q at e) in
       inl (decode-row s n p (q ∙ ap decoded.Refused r))
 
-  pub draw-row : (g : Given) → drawnOf s g incoming stored ≡ draw-refusal n p → DrawRefused s incoming (stored .depth) n p
-  draw-row g e = go (from-decoded g (decodable s) refl e)
+  pub draw-row : (n p : ℕ) (g : Given) → drawnOf s g incoming stored ≡ draw-refusal n p → DrawRefused s incoming (stored .depth) n p
+  draw-row n p g e = go (from-decoded n p g (decodable s) refl e)
     where
-      go : DecodeRefused s n p ⊎ Later → DrawRefused s incoming (stored .depth) n p
+      go : DecodeRefused s n p ⊎ (n ≡ 14) ⊎ DepthRefused s incoming (stored .depth) n p → DrawRefused s incoming (stored .depth) n p
       go (inl r) = inl r
       go (inr (inr r)) = inr (inr r)
       go (inr (inl z)) =
           let l = drawn-lowest s g incoming stored p (rw z at e) in
-          inr (inl (record { number = z; held = unbuilt-held (settingsOf s) p (l .1); why = l .1; lowest = l .2 }))
+          let h = unbuilt-held (settingsOf s) p (l .1) in
+          inr (inl (record { number = z; decoded = l .0; held = h; why = l .1; lowest = l .2 }))
+
+  -- AN ANSWER comes only where all of that passed
+  by-done : (o o′ : Outcome) (a b c : Bool) → eqb (unbuiltId x) 0 ≡ a → ltb (topOf s) incoming ≡ b → ltb (topOf s) (stored .depth) ≡ c
+      → Tested (drawn.Done o′) a b c ≡ drawn.Done o → (unbuiltId x ≡ 0) × (incoming ≤ topOf s) × (stored .depth ≤ topOf s)
+  by-done o o′ true true c v t u e = absurd (let z : _≡_ {A = ℕ} 0 1 = cc in omega arith)
+  by-done o o′ true false true v t u e = absurd (let z : _≡_ {A = ℕ} 0 1 = cc in omega arith)
+  by-done o o′ true false false v t u e =
+      (eqb-true (unbuiltId x) 0 v, ltb-false (topOf s) incoming t, ltb-false (topOf s) (stored .depth) u)
+  by-done o o′ false b c v t u e = absurd (let z : _≡_ {A = ℕ} 0 1 = cc in omega arith)
+
+  pub done-only : (g : Given) (o : Outcome) → drawnWith (settingsOf s) g incoming stored ≡ drawn.Done o
+      → ((j : ℕ) → unbuiltAt (settingsOf s) j ≡ false) × (incoming ≤ topOf s) × (stored .depth ≤ topOf s)
+  unfolding drawnWith
+  done-only g o e =
+      let r = by-done o (outcomeOf x g incoming stored) _ _ _ refl refl refl e in
+      (all-built x (r .0), r .1, r .2)

@@ -62,11 +62,11 @@ fault-numbered n (inr (inr (inr e))) z = e
 read-numbered : (s : State) (l : List ℕ) (n p : ℕ) → ReadRefused s l n p → n ≡ 0 → ⊥
 read-numbered s l n p (inl r) z = omega (arith, r .0)
 read-numbered s l n p (inr (inl r)) z = omega (arith, r .0)
-read-numbered s l n p (inr (inr r)) z = ⊎-elim (λ x. omega (arith, x .0)) (λ x. fault-numbered n (x .1) z) (r .why)
+read-numbered s l n p (inr (inr r)) z = ⊎-elim (λ x. omega (arith, x .0)) (λ x. fault-numbered n (x .1) z) (r .2 .why)
 
 write-numbered : (s : State) (w : Write) (n p : ℕ) → WriteRefused s w n p → n ≡ 0 → ⊥
 write-numbered s w n p r z =
-    ⊎-elim (λ x. omega (arith, x .0)) (⊎-elim (λ x. omega (arith, x .0)) (λ x. fault-numbered n (x .0) z)) (r .why)
+    ⊎-elim (λ x. omega (arith, x .0)) (⊎-elim (λ x. omega (arith, x .0)) (λ x. fault-numbered n (x .2) z)) (r .why)
 
 one-numbered : (n : ℕ) → In n (9 ∷ 3 ∷ 4 ∷ 5 ∷ []) → n ≡ 0 → ⊥
 one-numbered n (inl e) z = omega arith
@@ -75,7 +75,7 @@ one-numbered n (inr f) z = fault-numbered n f z
 pack-numbered : (is ms vs : List ℕ) (room n p : ℕ) → PackRefused is ms vs room n p → n ≡ 0 → ⊥
 pack-numbered is ms vs room n p (inl (inl r)) z = omega (arith, r .0)
 pack-numbered is ms vs room n p (inl (inr (inl r))) z = omega (arith, r .0)
-pack-numbered is ms vs room n p (inl (inr (inr r))) z = one-numbered n (r .why .0) z
+pack-numbered is ms vs room n p (inl (inr (inr r))) z = one-numbered n (r .2 .why .0) z
 pack-numbered is ms vs room n p (inr r) z = omega (arith, r .0)
 
 -- WHAT IS TAKEN OUT of the numbers that the promises of `pica_read`, `pica_write` and `pica_pack` give

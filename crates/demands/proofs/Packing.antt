@@ -27,6 +27,7 @@ use Rattle.packer.specs.Packing.{ifRoom, andThen, packAnswer, spaceAfter, packS
 use Rattle.packer.proofs.Checks.{check-given, given-check}
 use Rattle.packer.proofs.Packs.{pack-room, room-enough, room-short}
 use Rattle.demands.specs.Said.{Said}
+use Rattle.demands.specs.Refusals.{OneLength}
 use Rattle.demands.proofs.Reading.{accepted, leaves}
 use Rattle.demands.proofs.RunRefusals.{check-row, run-below}
 use Rattle.demands.proofs.Said.{said-packable, packable-said}
@@ -77,7 +78,7 @@ module _ (is ms vs : List ℕ) where
   lacking room n e (yes h) = let r = room-short list room _ refl h in let z : n ≡ length list = cc in (z, omega arith)
   lacking room n e (no h) = absurd (told-apart (room-enough list room _ refl (omega arith) ∙ e))
 
-  -- an answer is the length of the packed list, for which there is room, and the run is one that an accepted list says
+  -- an answer is the length of the packed list, for which there is room, of a run that can be packed
   pub answered-then : (room n : ℕ) → packAnswer is ms vs room ≡ answered n → PackableRun is ms vs × (n ≡ length list) × (n ≤ room)
   answered-then room n e =
       ⊎-elim (λ g. let r = enough room n (g .1) (decLt room (length list)) in (g .0, r .0, r .1))
@@ -95,7 +96,7 @@ given-said is ms vs G =
     packable-said (writes is ms vs) (omega (arith, writes-length is ms vs (G .masks) (G .values), G .few)) (G .packable)
 
 -- THE DEMAND: of at most 4,096 writes, in three buffers of one length, that some accepted list says
-module _ (is ms vs : List ℕ) (level : (length is ≡ length ms) × (length is ≡ length vs)) (few : length is ≤ 4096)
+module _ (is ms vs : List ℕ) (level : OneLength is ms vs) (few : length is ≤ 4096)
     (said : Said (writes is ms vs)) where
   abbrev ws : List Write
   ws = writes is ms vs

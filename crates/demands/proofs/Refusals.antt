@@ -1,14 +1,14 @@
 -- "Every entry point answers, or refuses by a number of the table": each refusal of a list, a write or a run is one of the table's rows
 -- for that call, and its place is what the row says. Assumes nothing.
-use mathlib.Core.Path.{_≡_, refl, sym, _∙_}
+use mathlib.Core.Path.{_≡_, refl, sym, ap, _∙_}
 use mathlib.Core.Bool.{Bool, true, false, not, _&&_}
-use mathlib.Core.List.{List, [], _∷_}
+use mathlib.Core.List.{List, [], _∷_, _++_}
 use mathlib.Core.Logic.{_⊎_, inl, inr}
-use Prim.Native.Nat.{ℕ, zero, suc, _+_, _<_}
+use Prim.Native.Nat.{ℕ, zero, suc, _+_, _≤_, _<_}
 use native.Mathlib.Omega.{arith}
 use lib.Dec.{eqb, leb, ltb}
 use lib.ListN.{length}
-use borrow.Author.Tests.{leb-false, ltb-true}
+use borrow.Author.Tests.{leb-true, leb-false, ltb-true, ltb-false}
 use Rattle.numbers.specs.Pick.{pick}
 use Rattle.numbers.specs.Answer.{Answer, refused, unlessFault}
 use Rattle.numbers.proofs.Answers.{told-apart, number-one, place-one}
@@ -23,7 +23,7 @@ use Rattle.registers.specs.Single.{refusalOf, atZero, writeAnswer}
 use Rattle.reader.specs.ListVerdict.{firstFault, commandFault, judge, verdict}
 use Rattle.reader.specs.Read.{readAnswer}
 use Rattle.reader.proofs.Accepted.{judge-none, judge-more}
-use Rattle.demands.specs.Refusals.{In, FaultNumber, CommandRefused, ReadRefused, WriteRefused}
+use Rattle.demands.specs.Refusals.{In, FaultNumber, Faultless, CommandRefused, ReadRefused, WriteRefused}
 
 -- A WRITE'S FAULT is 3, 4 or 5
 
@@ -70,17 +70,29 @@ by-whole l p true t n e z =
     inr (t, perhaps (3 ∷ 4 ∷ 5 ∷ []) n (rw e at (first-number (expand l p))) z, e)
 by-whole l p false t n e z = inl (sym e, t)
 
-abbrev At : List ℕ → List ℕ → ℕ → ℕ → Type 0
-At l ps n p =
-    In p ps × (((n ≡ 2) × (whole l p ≡ false)) ⊎ ((whole l p ≡ true) × FaultNumber n × (firstFault (expand l p) ≡ n)))
+-- the first at fault of the commands at ps is the one at p
+record At (l ps : List ℕ) (n p : ℕ) : Type 0 where
+  earlier : List ℕ
+  later : List ℕ
+  place : ps ≡ earlier ++ p ∷ later
+  first : Faultless l earlier
+  why : ((n ≡ 2) × (whole l p ≡ false)) ⊎ ((whole l p ≡ true) × FaultNumber n × (firstFault (expand l p) ≡ n))
 
 by-command : (l ps : List ℕ) (q f : ℕ) (rest : Answer) (n p : ℕ) → commandFault l q ≡ f → unlessFault f q rest ≡ refused n p
     → (rest ≡ refused n p → At l ps n p) → At l (q ∷ ps) n p
-by-command l ps q zero rest n p c e more = let r = more e in (inr (r .0), r .1)
+by-command l ps q zero rest n p c e more =
+    let r = more e in
+    record { earlier = q ∷ r .earlier; later = r .later; place = ap (λ (x : List ℕ). q ∷ x) (r .place); first = (c, r .first); why = r .why }
 by-command l ps q (suc f) rest n p c e more =
     let a : suc f ≡ n = number-one e in
     let b : p ≡ q = sym (place-one e) in
-    (inl b, rw b (by-whole l q (whole l q) refl n (c ∙ a) (λ z. omega arith)))
+    record {
+      earlier = [];
+      later = ps;
+      place = rw b;
+      first = tt;
+      why = rw b (by-whole l q (whole l q) refl n (c ∙ a) (λ z. omega arith));
+    }
 
 judge-refused : (l ps : List ℕ) (m n p : ℕ) → judge l ps m ≡ refused n p → At l ps n p
 judge-refused l [] m n p e = absurd (told-apart (sym (judge-none l m) ∙ e))
@@ -89,12 +101,14 @@ judge-refused l (q ∷ ps) m n p e =
 
 pub verdict-row : (l : List ℕ) (n p : ℕ) → verdict l ≡ refused n p → CommandRefused l n p
 unfolding verdict
-verdict-row l n p e = let r = judge-refused l (commands l 0) 0 n p e in record { place = r .0; why = r .1 }
+verdict-row l n p e =
+    let r = judge-refused l (commands l 0) 0 n p e in
+    record { earlier = r .earlier; later = r .later; place = r .place; first = r .first; why = r .why }
 
 by-length : (s : State) (l : List ℕ) (n p : ℕ) (a b : Bool) → sized s ≡ a → leb (length l) 65536 ≡ b
     → pick a (pick b (verdict l) (refused 1 0)) (refused 6 0) ≡ refused n p → ReadRefused s l n p
-by-length s l n p true true t u e = inr (inr (verdict-row l n p e))
-by-length s l n p true false t u e = inr (inl (sym (number-one e), sym (place-one e), leb-false _ _ u))
+by-length s l n p true true t u e = inr (inr (t, leb-true _ _ u, verdict-row l n p e))
+by-length s l n p true false t u e = inr (inl (sym (number-one e), sym (place-one e), t, leb-false _ _ u))
 by-length s l n p false b t u e = inl (sym (number-one e), sym (place-one e), t)
 
 pub read-row : (s : State) (l : List ℕ) (n p : ℕ) → readAnswer s l ≡ refused n p → ReadRefused s l n p
@@ -109,10 +123,11 @@ by-zero (suc f) n p e = let a : suc f ≡ n = number-one e in (a, sym (place-one
 
 by-mask : (s : State) (w : Write) (n : ℕ) (a b : Bool) → sized s ≡ a → ltb 15 (w .mask) ≡ b
     → pick a (pick b 9 (faultOf (w .id) (w .mask))) 6 ≡ n → (n ≡ 0 → ⊥)
-    → ((n ≡ 6) × (sized s ≡ false)) ⊎ ((n ≡ 9) × (15 < w .mask)) ⊎ (FaultNumber n × (faultOf (w .id) (w .mask) ≡ n))
-by-mask s w n true true t u e z = inr (inl (sym e, ltb-true _ _ u))
+    → ((n ≡ 6) × (sized s ≡ false)) ⊎ ((n ≡ 9) × (sized s ≡ true) × (15 < w .mask))
+    ⊎ ((sized s ≡ true) × (w .mask ≤ 15) × FaultNumber n × (faultOf (w .id) (w .mask) ≡ n))
+by-mask s w n true true t u e z = inr (inl (sym e, t, ltb-true _ _ u))
 by-mask s w n true false t u e z =
-    inr (inr (perhaps (3 ∷ 4 ∷ 5 ∷ []) n (rw e at (fault-number (w .id) (w .mask))) z, e))
+    inr (inr (t, ltb-false _ _ u, perhaps (3 ∷ 4 ∷ 5 ∷ []) n (rw e at (fault-number (w .id) (w .mask))) z, e))
 by-mask s w n false b t u e z = inl (sym e, t)
 
 pub write-row : (s : State) (w : Write) (n p : ℕ) → writeAnswer s w ≡ refused n p → WriteRefused s w n p

@@ -1,4 +1,5 @@
--- "A run that some accepted list could carry": exactly the runs of allowed writes with masks of at most 15. Assumes nothing.
+-- "A run that some accepted list could carry": of runs of at most 4,096 writes exactly those of allowed writes with masks of at most 15.
+-- Assumes nothing.
 use mathlib.Core.List.{List}
 use Prim.Native.Nat.{_≤_}
 use native.Mathlib.Omega.{arith}

@@ -1,15 +1,15 @@
 -- The table "Numbers given back", call by call: when a call refuses with a number, and what the place that it gives then means.
 use mathlib.Core.Path.{_≡_}
 use mathlib.Core.Bool.{true, false}
-use mathlib.Core.List.{List, [], _∷_}
+use mathlib.Core.List.{List, [], _∷_, _++_}
 use mathlib.Core.Logic.{_⊎_}
-use Prim.Native.Nat.{ℕ, _<_}
+use Prim.Native.Nat.{ℕ, _≤_, _<_}
 use lib.ListN.{length, getD}
 use Rattle.words.specs.Writes.{Write, faultOf}
 use Rattle.words.specs.Commands.{whole, expand, commands}
 use Rattle.registers.specs.State.{State, sized}
-use Rattle.reader.specs.ListVerdict.{firstFault}
-use Rattle.runs.specs.PackedList.{writes, packed}
+use Rattle.reader.specs.ListVerdict.{firstFault, commandFault}
+use Rattle.runs.specs.PackedList.{writes, PackableRun, packed}
 use Rattle.packer.specs.Checks.{wrong}
 
 -- x is one of these
@@ -21,32 +21,48 @@ In x (y ∷ l) = (x ≡ y) ⊎ In x l
 abbrev pub FaultNumber : ℕ → Type 0
 FaultNumber n = In n (3 ∷ 4 ∷ 5 ∷ [])
 
--- a command of the list at p, "its first word", is at fault: 2 where it needs more words than are left, else by its first write at fault
+-- none of the commands at these places is at fault
+abbrev pub Faultless : List ℕ → List ℕ → Type 0
+Faultless l [] = Unit {0}
+Faultless l (q ∷ qs) = (commandFault l q ≡ 0) × Faultless l qs
+
+-- the command of the list at p, "its first word", is the first at fault: 2 where it needs more words than are left, else by its first write at
+-- fault
 pub record CommandRefused (l : List ℕ) (n p : ℕ) : Type 0 where
-  pub place : In p (commands l 0)
+  pub earlier : List ℕ
+  pub later : List ℕ
+  pub place : commands l 0 ≡ earlier ++ p ∷ later
+  pub first : Faultless l earlier
   pub why : ((n ≡ 2) × (whole l p ≡ false)) ⊎ ((whole l p ≡ true) × FaultNumber n × (firstFault (expand l p) ≡ n))
 
 -- READING a list into a state: 6, 1, then its commands
 abbrev pub ReadRefused : State → List ℕ → ℕ → ℕ → Type 0
 ReadRefused s l n p =
-    ((n ≡ 6) × (p ≡ 0) × (sized s ≡ false)) ⊎ ((n ≡ 1) × (p ≡ 0) × (65536 < length l)) ⊎ CommandRefused l n p
+    ((n ≡ 6) × (p ≡ 0) × (sized s ≡ false)) ⊎ ((n ≡ 1) × (p ≡ 0) × (sized s ≡ true) × (65536 < length l))
+    ⊎ ((sized s ≡ true) × (length l ≤ 65536) × CommandRefused l n p)
 
 -- A SINGLE WRITE: 6, 9, then its fault; the place is 0
 pub record WriteRefused (s : State) (w : Write) (n p : ℕ) : Type 0 where
   pub place : p ≡ 0
-  pub why : ((n ≡ 6) × (sized s ≡ false)) ⊎ ((n ≡ 9) × (15 < w .mask)) ⊎ (FaultNumber n × (faultOf (w .id) (w .mask) ≡ n))
+  pub why : ((n ≡ 6) × (sized s ≡ false)) ⊎ ((n ≡ 9) × (sized s ≡ true) × (15 < w .mask))
+      ⊎ ((sized s ≡ true) × (w .mask ≤ 15) × FaultNumber n × (faultOf (w .id) (w .mask) ≡ n))
 
 -- THE WRITES OF A RUN: 7, 8, then the first write that is refused, with its index
 pub record OneRefused (is ms : List ℕ) (n p : ℕ) : Type 0 where
   pub place : p < length is
+  pub first : (k : ℕ) → k < p → wrong (getD is k 0) (getD ms k 0) ≡ 0
   pub why : In n (9 ∷ 3 ∷ 4 ∷ 5 ∷ []) × (wrong (getD is p 0) (getD ms p 0) ≡ n)
+
+-- ids, masks and values are of one length
+abbrev pub OneLength : List ℕ → List ℕ → List ℕ → Type 0
+OneLength is ms vs = (length is ≡ length ms) × (length is ≡ length vs)
 
 abbrev pub RunRefused : List ℕ → List ℕ → List ℕ → ℕ → ℕ → Type 0
 RunRefused is ms vs n p =
-    ((n ≡ 7) × (p ≡ 0) × ((length is ≡ length ms) × (length is ≡ length vs) → ⊥)) ⊎ ((n ≡ 8) × (p ≡ 0) × (4096 < length is))
-    ⊎ OneRefused is ms n p
+    ((n ≡ 7) × (p ≡ 0) × (OneLength is ms vs → ⊥)) ⊎ ((n ≡ 8) × (p ≡ 0) × OneLength is ms vs × (4096 < length is))
+    ⊎ (OneLength is ms vs × (length is ≤ 4096) × OneRefused is ms n p)
 
 -- PACKING: the writes, then 10 with the words needed, which the space is shorter than
 abbrev pub PackRefused : List ℕ → List ℕ → List ℕ → ℕ → ℕ → ℕ → Type 0
 PackRefused is ms vs room n p =
-    RunRefused is ms vs n p ⊎ ((n ≡ 10) × (p ≡ length (packed (writes is ms vs))) × (room < p))
+    RunRefused is ms vs n p ⊎ ((n ≡ 10) × PackableRun is ms vs × (p ≡ length (packed (writes is ms vs))) × (room < p))

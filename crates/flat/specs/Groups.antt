@@ -1,4 +1,4 @@
--- The decoded state's words in three groups, as they are laid out.
+-- The decoded state's words in three groups, as they are laid out. Not of the document.
 use mathlib.Core.List.{List, _++_}
 use Prim.Native.Nat.{ℕ}
 use Rattle.settings.specs.Flat.{rasteriserWords, stageWords, fogWords, colourWords, blendingWords, testsWords, buffersWords, lightPortWords}

@@ -204,11 +204,9 @@ module _ (s : Settings) (g : Given) (incoming : ℕ) (stored : Stored) where
         → Opposed (λ k. outcomeOf (withFrame (alphaCode k (s .framebuffer))) g incoming stored .verdict) code
         (compared code (combinerOf (s .stages) (s .«buffer_fog») g .alpha) (s .framebuffer .tests .alpha .reference)) Passes AlphaFails
     unfolding outcomeOf judgedOf
-    alpha-outcomes t d =
-        let b = result-bytes (s .stages) (s .«buffer_fog») g in
-        alpha-opposed (s .framebuffer) alphaOf incoming (stored .stencil) (stored .depth) code l (omega (arith, b .alpha)) t d
+    alpha-outcomes t d = alpha-opposed (s .framebuffer) alphaOf incoming (stored .stencil) (stored .depth) code l t d
 
-    pub stencil-outcomes : s .framebuffer .tests .stencil .reference < 2 ^ 8 → s .framebuffer .buffers .«depth_format» ≡ 3
+    pub stencil-outcomes : s .framebuffer .buffers .«depth_format» ≡ 3
         → alphaPasses (s .framebuffer .tests .alpha) (combinerOf (s .stages) (s .«buffer_fog») g .alpha) ≡ true
         → depthPasses (s .framebuffer .tests .depth) incoming (stored .depth) ≡ true
         → Opposed (λ k. outcomeOf (withFrame (stencilCode k (s .framebuffer))) g incoming stored .verdict) code
@@ -216,15 +214,11 @@ module _ (s : Settings) (g : Given) (incoming : ℕ) (stored : Stored) where
         (bitAnd (stored .stencil) (s .framebuffer .tests .stencil .mask)))
         Passes StencilFails
     unfolding outcomeOf judgedOf
-    stencil-outcomes r f a d =
-        stencil-opposed (s .framebuffer) alphaOf incoming (stored .stencil) (stored .depth) code l r f a d
+    stencil-outcomes f a d = stencil-opposed (s .framebuffer) alphaOf incoming (stored .stencil) (stored .depth) code l f a d
 
-    pub depth-outcomes : incoming ≤ largest (s .framebuffer .buffers .«depth_format»)
-        → alphaPasses (s .framebuffer .tests .alpha) (combinerOf (s .stages) (s .«buffer_fog») g .alpha) ≡ true
+    pub depth-outcomes : alphaPasses (s .framebuffer .tests .alpha) (combinerOf (s .stages) (s .«buffer_fog») g .alpha) ≡ true
         → stencilPasses (s .framebuffer .tests .stencil) (s .framebuffer .buffers .«depth_format») (stored .stencil) ≡ true
         → Opposed (λ k. outcomeOf (withFrame (depthCode k (s .framebuffer))) g incoming stored .verdict) code
         (compared code incoming (stored .depth)) Passes DepthFails
     unfolding outcomeOf judgedOf
-    depth-outcomes h a t =
-        depth-opposed (s .framebuffer) alphaOf incoming (stored .stencil) (stored .depth) code l (depthBits format)
-        (within-bits format incoming h) a t
+    depth-outcomes a t = depth-opposed (s .framebuffer) alphaOf incoming (stored .stencil) (stored .depth) code l a t

@@ -14,7 +14,7 @@ spread m = m % 2 * 0xFF + m / 2 % 2 * 0xFF00 + m / 4 % 2 * 0xFF0000 + m / 8 % 2 
 abbrev pub merge : ℕ → ℕ → ℕ → ℕ
 merge e old new = bitOr (bitAnd old (0xFFFFFFFF - e)) (bitAnd new e)
 
--- the choice by a bit: a where it is 1, else b
+-- not of the document, for laws on bits: the choice by a bit, a where it is 1, else b
 abbrev pub pickBit : ℕ → ℕ → ℕ → ℕ
 pickBit zero a b = b
 pickBit (suc e) a b = a

@@ -1,5 +1,5 @@
--- The tables that a look-up goes by: the rows of the held table as words, and for each low byte of an id the row to look at. Not of the
--- document.
+-- The tables that a look-up goes by: the rows of the held table as words, and for each low byte of an id the row to look at.
+-- Not of the document.
 use mathlib.Core.Path.{_≡_}
 use mathlib.Core.List.{List, [], _∷_, map}
 use Prim.Native.Nat.{ℕ, zero, suc, _%_}

@@ -22,12 +22,13 @@ not-not : (t : Bool) → t ≡ not (not t)
 not-not true = refl
 not-not false = refl
 
--- the code that passes exactly where this one fails: never and always, equal and unequal, less and at least, at most and greater
+-- the code that passes exactly where this one fails, whatever the numbers: never and always, equal and unequal, less and at least, at most
+-- and greater
 abbrev pub opposite : ℕ → ℕ
 opposite code = getD (1 ∷ 0 ∷ 3 ∷ 2 ∷ 7 ∷ 6 ∷ 5 ∷ 4 ∷ []) code 0
 
 module _ (a b : ℕ) where
-  opposite-by : (code : ℕ) → code < 8 → compared (opposite code) a b ≡ not (compared code a b)
+  pub opposite-by : (code : ℕ) → code < 8 → compared (opposite code) a b ≡ not (compared code a b)
   opposite-by zero h = refl
   opposite-by (suc zero) h = refl
   opposite-by (suc (suc zero)) h = refl

@@ -1,5 +1,5 @@
 -- The facts of Comparisons.antt for the three tests, at their widths: 8 bits for alpha and stencil, 16 or 24 for depth; and what they come
--- to for the verdict. Each is an instance of a lemma over the width. Assumes nothing.
+-- to for the verdict. Each is an instance of a lemma over the width, or holds of any numbers. Assumes nothing.
 use mathlib.Core.Path.{_≡_, refl}
 use mathlib.Core.Bool.{Bool, true, false, not}
 use Prim.Native.Nat.{ℕ, _<_, _^_}
@@ -15,14 +15,13 @@ use Rattle.stores.specs.Compare.{compared}
 use Rattle.stores.specs.Tests.{alphaPasses, stencilPasses, depthPasses, verdictOf}
 use Rattle.stores.specs.declared.Verdict.{Verdict}
 use Rattle.stores.specs.declared.Verdict.the-variants.{AlphaFails, StencilFails, DepthFails, Passes}
-use Rattle.stores.proofs.Comparisons.{opposite, AtWidth, at-width}
+use Rattle.stores.proofs.Comparisons.{opposite, opposite-by, AtWidth, at-width}
 
 -- THE TESTS, ENABLED, BY A CODE
 
 abbrev pub enabledAlpha : ℕ → ℕ → AlphaTest
 enabledAlpha code reference = record { enable = 1; function = code; reference = reference }
 
--- the whole of the bytes is compared where the mask is 255
 abbrev pub enabledStencil : StencilTest → ℕ → ℕ → StencilTest
 enabledStencil t code mask =
     record { enable = 1; function = code; «buffer_mask» = t .«buffer_mask»; reference = t .reference; mask = mask }
@@ -45,6 +44,7 @@ alpha-width alpha h = at-width 8 alpha h
 low-byte : (x : ℕ) → bitAnd x 255 < 2 ^ 8
 low-byte x = rw (and-mask x 8) (omega arith)
 
+-- at depth format 3, and with a mask of 255, so that the whole byte is compared
 pub stencil-width : (t : StencilTest) → AtWidth 8 (λ code stored. stencilPasses (enabledStencil t code 255) 3 stored)
 stencil-width t =
     let f = at-width 8 (bitAnd (t .reference) 255) (low-byte (t .reference)) in
@@ -67,9 +67,9 @@ exchanged true v v′ = refl
 exchanged false v v′ = refl
 
 -- where a code gives one of two verdicts, the opposite code gives the other
-flipped : (w code a b : ℕ) → a < 2 ^ w → code < 8 → (v v′ : Verdict)
+flipped : (code a b : ℕ) → code < 8 → (v v′ : Verdict)
     → pick (compared (opposite code) a b) v v′ ≡ pick (compared code a b) v′ v
-flipped w code a b h l v v′ = rw (at-width w a h .opposite-fails code b l) (exchanged (compared code a b) v v′)
+flipped code a b l v v′ = rw (opposite-by a b code l) (exchanged (compared code a b) v v′)
 
 abbrev withTests : Tests → Framebuffer → Framebuffer
 withTests t f = record { blending = f .blending; tests = t; buffers = f .buffers }
@@ -107,34 +107,27 @@ Opposed verdict code passes v v′ = (verdict code ≡ pick passes v v′) × (v
 
 module _ (f : Framebuffer) (alpha incoming stencil depth code : ℕ) (l : code < 8) where
   -- with the other two tests passing
-  pub alpha-opposed : alpha < 2 ^ 8
-      → stencilPasses (f .tests .stencil) (f .buffers .«depth_format») stencil ≡ true
+  pub alpha-opposed : stencilPasses (f .tests .stencil) (f .buffers .«depth_format») stencil ≡ true
       → depthPasses (f .tests .depth) incoming depth ≡ true
       → Opposed (λ k. verdictOf (alphaCode k f) alpha incoming stencil depth) code
       (compared code alpha (f .tests .alpha .reference)) Passes AlphaFails
   unfolding verdictOf
-  alpha-opposed h s d = (rw (s, d), rw (s, d) (flipped 8 code alpha (f .tests .alpha .reference) h l Passes AlphaFails))
+  alpha-opposed s d = (rw (s, d), rw (s, d) (flipped code alpha (f .tests .alpha .reference) l Passes AlphaFails))
 
   -- at depth format 3
-  pub stencil-opposed : f .tests .stencil .reference < 2 ^ 8
-      → f .buffers .«depth_format» ≡ 3
+  pub stencil-opposed : f .buffers .«depth_format» ≡ 3
       → alphaPasses (f .tests .alpha) alpha ≡ true
       → depthPasses (f .tests .depth) incoming depth ≡ true
       → Opposed (λ k. verdictOf (stencilCode k f) alpha incoming stencil depth) code
       (compared code (bitAnd (f .tests .stencil .reference) (f .tests .stencil .mask)) (bitAnd stencil (f .tests .stencil .mask)))
       Passes StencilFails
   unfolding verdictOf
-  stencil-opposed h e a d =
+  stencil-opposed e a d =
       let t = f .tests .stencil in
-      let small : bitAnd (t .reference) (t .mask) < 2 ^ 8 = omega (arith, h, and-le-l (t .reference) (t .mask)) in (
-        rw (e, a, d),
-        rw (e, a, d) (flipped 8 code (bitAnd (t .reference) (t .mask)) (bitAnd stencil (t .mask)) small l Passes StencilFails),
-      )
+      (rw (e, a, d), rw (e, a, d) (flipped code (bitAnd (t .reference) (t .mask)) (bitAnd stencil (t .mask)) l Passes StencilFails))
 
-  -- at 16 bits or 24
-  pub depth-opposed : (w : ℕ) → incoming < 2 ^ w
-      → alphaPasses (f .tests .alpha) alpha ≡ true
+  pub depth-opposed : alphaPasses (f .tests .alpha) alpha ≡ true
       → stencilPasses (f .tests .stencil) (f .buffers .«depth_format») stencil ≡ true
       → Opposed (λ k. verdictOf (depthCode k f) alpha incoming stencil depth) code (compared code incoming depth) Passes DepthFails
   unfolding verdictOf
-  depth-opposed w h a s = (rw (a, s), rw (a, s) (flipped w code incoming depth h l Passes DepthFails))
+  depth-opposed a s = (rw (a, s), rw (a, s) (flipped code incoming depth l Passes DepthFails))
