@@ -6,7 +6,6 @@ use native.Mathlib.Omega.{arith}
 use lib.Dec.{eqb}
 use lib.ListN.{getD, set, List·getD-map}
 use Rattle.numbers.specs.Pick.{pick}
-use Rattle.settings.specs.declared.records.Colour.{Colour}
 use Rattle.settings.proofs.Bytes.{Bytes}
 use Rattle.settings.proofs.Inverse.{same-colour}
 use Rattle.combiner.specs.Operands.{black, sourceOf, rgbPart, alphaPart}

@@ -1,7 +1,7 @@
 -- The tests of a fragment at their widths, from what `stores` proves once over the width: 8 bits for alpha and stencil, 16 or 24 by the
 -- depth format. Assumes nothing.
 use mathlib.Core.Path.{_≡_, refl, ap, sym, _∙_}
-use mathlib.Core.Bool.{Bool, true, false, not, _||_, false≢true}
+use mathlib.Core.Bool.{Bool, true, false, false≢true}
 use Prim.Native.Nat.{ℕ, _-_, _<_, _≤_, _^_}
 use native.Mathlib.Omega.{arith}
 use lib.Bits.{bitAnd}
@@ -24,7 +24,6 @@ use Rattle.stores.specs.Compare.{compared}
 use Rattle.stores.specs.Tests.{alphaPasses, stencilPasses, depthPasses, inOrder, verdictNumber, verdictOf}
 use Rattle.stores.specs.Stores.{judgedOf}
 use Rattle.stores.specs.declared.Stored.{Stored}
-use Rattle.stores.specs.declared.Verdict.{Verdict}
 use Rattle.stores.specs.declared.Verdict.the-variants.{AlphaFails, StencilFails, DepthFails, Passes}
 use Rattle.stores.proofs.Comparisons.{AtWidth}
 use Rattle.stores.proofs.Widths.{enabledAlpha, alpha-width, enabledDepth, depth-width, Opposed}

@@ -1,9 +1,9 @@
-// A colour and its word, each way: the one place where a colour is packed or unpacked. The contracts cite specs/Colours.antt.
+// A colour and its word, each way, for every crate that packs or unpacks a colour. The contracts cite specs/Colours.antt.
 ghost use mathlib.Core.Path.{_≡_};
 ghost use Rattle.settings.specs.Colours.{colourOf, wordOf};
 use crate::records::Colour;
 
-// The word of a colour, and that it is a word of this colour: its channels are bytes.
+// The word of a colour. Its channels are bytes, so that the word is this colour again.
 pub fn word_of(c: Colour) -> u32
     ensures word { λ r. ⌜ r ≡ wordOf c ⌝ }
     ensures back { λ r. ⌜ colourOf r ≡ c ⌝ }
