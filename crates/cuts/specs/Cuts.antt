@@ -8,7 +8,8 @@ use lib.Dec.{ltb}
 use lib.ListN.{length, getD, drop}
 use Rattle.numbers.specs.Pick.{pick}
 
--- what is asked of `span`, for the theory alone: a command carries at least one write, no more than there are, and, without its first write, the others
+-- what is asked of `span`, for the theory alone: a command carries at least one write, no more than there are, and, without its first
+-- write, the others
 pub record Spans {A : Type 0} (span : List A → ℕ) : Type 0 where
   pub pos : (a : A) (l : List A) → 1 ≤ span (a ∷ l)
   pub fits : (l : List A) → span l ≤ length l
@@ -36,8 +37,8 @@ Most [] js = js ≡ []
 Most (k ∷ ks) [] = ⊥
 Most (k ∷ ks) (j ∷ js) = (j < k) ⊎ ((j ≡ k) × Most ks js)
 
--- NOT OF THE DOCUMENT: how the answer is found. That it is the document's, the fewest words and then the most writes in the first command, is
--- said by laws alone: `least-low`, `sizes-least`, `sizes-most`, and of lists by `packed-shortest` of crate runs
+-- NOT OF THE DOCUMENT: how the answer is found. That it is the document's, the fewest words and then the most writes in the first
+-- command, is said by laws alone: `least-low`, `sizes-least`, `sizes-most`, and of lists by `packed-shortest` of crate runs
 
 -- the words of a run whose first command carries k writes, where t has the words of what is left after 1, 2, .. writes
 abbrev pub after : List ℕ → ℕ → ℕ

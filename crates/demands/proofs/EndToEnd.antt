@@ -167,8 +167,8 @@ held-settings : (s : State) (x : Settings) (t : Bool) → decodable s ≡ t → 
 held-settings s x true d e = let z = sym e ∙ decodable-held s d in (d, cc)
 held-settings s x false d e = let q = sym e ∙ else-refused s d in absurd (let z : _≡_ {A = ℕ} 0 1 = cc in omega arith)
 
--- "Decoded state and fragment results are those of document 01's tables": of a state whose codes all have names, and for a fragment one that
--- is built, and depths that the format has
+-- "Decoded state and fragment results are those of document 01's tables": of a state whose codes all have names, and for a fragment one
+-- that is built, and depths that the format has
 pub decode-answers : {s : State} {x : Settings} → DecodeCall s (decoded.Held x)
     → (sized s ≡ true) × ((j : ℕ) → nameless s j ≡ false) × (x ≡ settingsOf s)
 decode-answers {s} {x} c =
@@ -185,7 +185,8 @@ draw-answers {s} {g} {incoming} {stored} {o} c =
     (d .0, r .0, r .1, r .2, drawn-within (settingsOf s) g incoming stored o (d .1) .2)
 
 -- DEMAND 3: "For any run of at most 4,096 writes that some accepted list could carry the packer's list has exactly that expansion, and no
--- accepted list with that expansion has fewer words. "No room" always and only when the lent space is shorter than that, with the words needed."
+-- accepted list with that expansion has fewer words. "No room" always and only when the lent space is shorter than that, with the words
+-- needed."
 
 -- the list is in the space, shortest, and the space past it is as it was
 pub record PackedInto (ws : List Write) (old new : List ℕ) (n : ℕ) : Type 0 where

@@ -21,7 +21,7 @@ use Rattle.decode.proofs.Cases.{decodable-held, else-refused}
 use Rattle.fragment.proofs.Unbuilt.{drawn-lowest}
 use Rattle.combiner.specs.declared.Given.{Given}
 use Rattle.stores.specs.declared.Stored.{Stored}
-use Rattle.fragment.specs.Drawn.{unbuiltAt, unbuiltId, outcomeOf, largest, drawnWith, drawnFrom, drawnOf}
+use Rattle.fragment.specs.Drawn.{unbuiltAt, unbuiltId, outcomeOf, drawnWith, drawnFrom, drawnOf}
 use Rattle.fragment.specs.Drawn.{refusal as draw-refusal, numberOf as draw-number, valuesOf as draw-values}
 use Rattle.fragment.specs.declared.Outcome.{Outcome}
 use Rattle.fragment.specs.declared.Drawn.{Drawn}
@@ -109,7 +109,7 @@ decode-row s n p e = go (number-row s n p e)
 -- A FRAGMENT
 
 -- where no register is named, none asks for what is not built
-none-unbuilt : (e0 r100 r117 : Bool) → pick e0 0xE0 (pick r100 0x100 (pick r117 0x117 0)) ≡ 0 → (a b c : Bool)
+none-unbuilt : (e0 r100 r117 : Bool) → _≡_ {A = ℕ} (pick e0 0xE0 (pick r100 0x100 (pick r117 0x117 0))) 0 → (a b c : Bool)
     → pick a e0 (pick b r100 (pick c r117 false)) ≡ false
 none-unbuilt true r100 r117 e a b c = absurd (omega arith)
 none-unbuilt false true r117 e a b c = absurd (omega arith)
@@ -145,16 +145,19 @@ module _ (s : State) (incoming : ℕ) (stored : Stored) where
     by-depth o true false true v t u e =
         let z = ap draw-values e in
         let built = all-built x (eqb-true (unbuiltId x) 0 v) in
-        let why = inr (cc, ltb-false (topOf s) incoming t, ltb-true (topOf s) (stored .depth) u) in
-        inr (record { number = sym (ap draw-number e); decoded = held; built = built; why = why })
+        inr
+        (record {
+          number = sym (ap draw-number e);
+          decoded = held;
+          built = built;
+          why = inr (cc, ltb-false (topOf s) incoming t, ltb-true (topOf s) (stored .depth) u);
+        })
     by-depth o true false false v t u e = absurd (let z : _≡_ {A = ℕ} 0 1 = cc in omega arith)
     by-depth o false b c v t u e = inl (sym (ap draw-number e))
 
     with-row : (g : Given) → drawnWith (settingsOf s) g incoming stored ≡ draw-refusal n p → Later
     unfolding drawnWith
-    with-row g e =
-        by-depth (outcomeOf x g incoming stored) (eqb (unbuiltId x) 0) (ltb (topOf s) incoming) (ltb (topOf s) (stored .depth)) refl refl refl
-        e
+    with-row g e = by-depth (outcomeOf x g incoming stored) _ _ _ refl refl refl e
 
   -- by what decoding gives: a fragment hands its refusals on
   same : (r : Refusal) (n p : ℕ) → drawn.Refused r ≡ draw-refusal n p → r ≡ record { number = n; place = p }

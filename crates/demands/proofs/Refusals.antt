@@ -82,7 +82,8 @@ by-command : (l ps : List ℕ) (q f : ℕ) (rest : Answer) (n p : ℕ) → comma
     → (rest ≡ refused n p → At l ps n p) → At l (q ∷ ps) n p
 by-command l ps q zero rest n p c e more =
     let r = more e in
-    record { earlier = q ∷ r .earlier; later = r .later; place = ap (λ (x : List ℕ). q ∷ x) (r .place); first = (c, r .first); why = r .why }
+    let place = ap (λ (x : List ℕ). q ∷ x) (r .place) in
+    record { earlier = q ∷ r .earlier; later = r .later; place = place; first = (c, r .first); why = r .why }
 by-command l ps q (suc f) rest n p c e more =
     let a : suc f ≡ n = number-one e in
     let b : p ≡ q = sym (place-one e) in

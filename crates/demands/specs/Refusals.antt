@@ -26,8 +26,8 @@ abbrev pub Faultless : List ℕ → List ℕ → Type 0
 Faultless l [] = Unit {0}
 Faultless l (q ∷ qs) = (commandFault l q ≡ 0) × Faultless l qs
 
--- the command of the list at p, "its first word", is the first at fault: 2 where it needs more words than are left, else by its first write at
--- fault
+-- the command of the list at p, "its first word", is the first at fault: 2 where it needs more words than are left, else by its first
+-- write at fault
 pub record CommandRefused (l : List ℕ) (n p : ℕ) : Type 0 where
   pub earlier : List ℕ
   pub later : List ℕ

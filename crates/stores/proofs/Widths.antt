@@ -4,7 +4,7 @@ use mathlib.Core.Path.{_≡_, refl}
 use mathlib.Core.Bool.{Bool, true, false, not}
 use Prim.Native.Nat.{ℕ, _<_, _^_}
 use native.Mathlib.Omega.{arith}
-use lib.Bits.{bitAnd, and-le-l, and-mask}
+use lib.Bits.{bitAnd, and-mask}
 use Rattle.numbers.specs.Pick.{pick}
 use Rattle.settings.specs.declared.records.AlphaTest.{AlphaTest}
 use Rattle.settings.specs.declared.records.StencilTest.{StencilTest}
