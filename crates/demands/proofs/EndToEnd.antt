@@ -7,10 +7,10 @@ use mathlib.Core.Logic.{_⊎_, inl, inr}
 use Prim.Native.Nat.{ℕ, zero, suc, _≤_, _<_}
 use native.Mathlib.Decide.{decLe}
 use native.Mathlib.Omega.{arith}
-use lib.Dec.{leb, ltb}
+use lib.Dec.{ltb}
 use lib.ListN.{length, take, drop}
 use lib.Seq.{take-at, drop-at}
-use borrow.Author.Tests.{leb-true, ltb-false, eq-eqb}
+use borrow.Author.Tests.{ltb-false, eq-eqb}
 use Rattle.numbers.specs.Pick.{pick}
 use Rattle.numbers.specs.Answer.{answered, refused}
 use Rattle.numbers.proofs.Answers.{told-apart}
@@ -22,7 +22,7 @@ use Rattle.registers.specs.State.{State, sized}
 use Rattle.registers.specs.Applied.{apply, applyAll}
 use Rattle.registers.specs.Single.{refusalOf, atZero, unless}
 use Rattle.registers.specs.declared.Written.the-variants as written
-use Rattle.reader.specs.ListVerdict.{verdict, allAllowed}
+use Rattle.reader.specs.ListVerdict.{allAllowed}
 use Rattle.reader.specs.Read.{readAnswer, readState}
 use Rattle.reader.specs.declared.ListVerdict.{ListVerdict}
 use Rattle.reader.specs.declared.ListVerdict.the-variants as list-verdict
@@ -51,7 +51,7 @@ use Rattle.demands.specs.Refusals.{ReadRefused, WriteRefused, OneLength,
 use Rattle.demands.proofs.Calls.{WriteCall, ReadCall, PackCall, DecodeCall, DrawCall}
 use Rattle.demands.proofs.Calls.{write-call, read-call, pack-call, decode-call, draw-call}
 use Rattle.demands.proofs.FragmentRefusals.{decode-row, draw-row, done-only}
-use Rattle.demands.proofs.Reading.{refused-list, refused-write, accepted, accepted-only, leaves}
+use Rattle.demands.proofs.Reading.{refused-list, refused-write, read-tested, accepted, accepted-only, leaves}
 use Rattle.demands.proofs.Refusals.{write-row, read-row}
 use Rattle.demands.proofs.RunRefusals.{pack-row}
 use Rattle.demands.proofs.Said.{said-packable}
@@ -95,22 +95,12 @@ pub record Acceptable (s : State) (l : List ℕ) : Type 0 where
   pub form : wellFormed l ≡ true
   pub writes : allAllowed (expansion l) ≡ true
 
-by-tests : (s : State) (l : List ℕ) (n : ℕ) (a b : Bool) → sized s ≡ a → leb (length l) 65536 ≡ b
-    → pick a (pick b (verdict l) (refused 1 0)) (refused 6 0) ≡ answered n → (sized s ≡ true) × (length l ≤ 65536)
-by-tests s l n true true t u e = (t, leb-true _ _ u)
-by-tests s l n true false t u e = absurd (told-apart (sym e))
-by-tests s l n false b t u e = absurd (told-apart (sym e))
-
-tested : (s : State) (l : List ℕ) (n : ℕ) → readAnswer s l ≡ answered n → (sized s ≡ true) × (length l ≤ 65536)
-unfolding readAnswer
-tested s l n e = by-tests s l n (sized s) (leb (length l) 65536) refl refl e
-
 pub read-accepts-only : {s t : State} {l : List ℕ} {n : ℕ} → ReadCall s l (list-verdict.Accepted n) t
     → Acceptable s l × (n ≡ length (expansion l)) × (t ≡ applyAll s (expansion l))
 read-accepts-only {s} {t} {l} {n} c =
     let k = read-call c in
     let e = sym (k .0) in
-    let z = tested s l n e in
+    let z = read-tested s l n e in
     let a = accepted-only s l (z .0) (z .1) n e in
     (record { lengths = z .0; short = z .1; form = a .0; writes = a .1 }, a .2, k .1 ∙ leaves s l (z .0) (z .1) n e)
 
@@ -244,7 +234,7 @@ module _ {is ms vs old new : List ℕ} {r : Packed} (p : PackCall is ms vs old r
       go (yes h) = inl (fits h)
       go (no h) = inr (lacks (omega arith))
 
--- and a run that is packed, or for which there is no room, is one of those
+-- and only such a run is packed
 pub packs-only : {is ms vs old new : List ℕ} {n : ℕ} → PackCall is ms vs old (packer.Words n) new
     → OneLength is ms vs × (length is ≤ 4096) × Said (writes is ms vs)
 packs-only {is} {ms} {vs} {old} {new} {n} c =

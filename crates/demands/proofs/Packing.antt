@@ -1,21 +1,18 @@
 -- DEMAND 3, and demand 2 of a packed list, over what the reader accepts. Assumes nothing.
 use mathlib.Core.Path.{_≡_, refl, sym, ap, _∙_}
-use mathlib.Core.Bool.{Bool, true, false}
+use mathlib.Core.Bool.{true}
 use mathlib.Core.List.{List, _++_}
 use mathlib.Core.Logic.{_⊎_, inl, inr, ⊎-elim}
 use Prim.Native.Nat.{ℕ, _*_, _≤_, _<_}
 use native.Mathlib.Decide.{decLt}
 use native.Mathlib.Omega.{arith}
-use lib.Dec.{leb}
 use lib.ListN.{length, drop}
-use Rattle.numbers.specs.Pick.{pick}
 use Rattle.numbers.specs.Answer.{Answer, answered, refused}
 use Rattle.numbers.proofs.Answers.{told-apart, number-one}
 use Rattle.words.specs.Writes.{Write}
 use Rattle.words.specs.Commands.{expansion}
 use Rattle.registers.specs.State.{State, sized}
 use Rattle.registers.specs.Applied.{applyAll}
-use Rattle.reader.specs.ListVerdict.{verdict}
 use Rattle.reader.specs.Read.{readAnswer, readState}
 use Rattle.reader.proofs.Accepted.{verdict-accepted}
 use Rattle.runs.specs.PackedList.{writes, PackableRun, packed}
@@ -28,19 +25,9 @@ use Rattle.packer.proofs.Checks.{check-given, given-check}
 use Rattle.packer.proofs.Packs.{pack-room, room-enough, room-short}
 use Rattle.demands.specs.Said.{Said}
 use Rattle.demands.specs.Refusals.{OneLength}
-use Rattle.demands.proofs.Reading.{accepted, leaves}
+use Rattle.demands.proofs.Reading.{read-tested, accepted, leaves}
 use Rattle.demands.proofs.RunRefusals.{check-row, run-below}
 use Rattle.demands.proofs.Said.{said-packable, packable-said}
-
--- a list that a state accepts has a verdict that accepts
-by-tests : (l : List ℕ) (n : ℕ) (a b : Bool) → pick a (pick b (verdict l) (refused 1 0)) (refused 6 0) ≡ answered n → verdict l ≡ answered n
-by-tests l n true true e = e
-by-tests l n true false e = absurd (told-apart (sym e))
-by-tests l n false b e = absurd (told-apart (sym e))
-
-read-verdict : (s : State) (l : List ℕ) (n : ℕ) → readAnswer s l ≡ answered n → verdict l ≡ answered n
-unfolding readAnswer
-read-verdict s l n e = by-tests l n (sized s) (leb (length l) 65536) e
 
 -- "No lent memory changes on any refusal"
 kept : (a : Answer) (l old : List ℕ) (n p : ℕ) → a ≡ refused n p → spaceAfter a l old ≡ old
@@ -122,7 +109,7 @@ module _ (is ms vs : List ℕ) (level : OneLength is ms vs) (few : length is ≤
 
   -- "the packer's list has exactly that expansion, and no accepted list with that expansion has fewer words"
   pub no-fewer : (s : State) (l : List ℕ) (n : ℕ) → readAnswer s l ≡ answered n → expansion l ≡ ws → length (packed ws) ≤ length l
-  no-fewer s l n a x = best .least l (says-of ws l n (read-verdict s l n a) x)
+  no-fewer s l n a x = best .least l (says-of ws l n (read-tested s l n a .2) x)
 
   -- "Never longer than two words a write"
   pub two-a-write : length (packed ws) ≤ 2 * length ws

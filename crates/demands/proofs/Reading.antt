@@ -1,11 +1,14 @@
 -- DEMANDS 1 AND 2 of a list that is read, and of a single write. Assumes nothing.
-use mathlib.Core.Path.{_≡_, sym, _∙_}
-use mathlib.Core.Bool.{true}
+use mathlib.Core.Path.{_≡_, refl, sym, _∙_}
+use mathlib.Core.Bool.{Bool, true, false}
 use mathlib.Core.List.{List}
 use Prim.Native.Nat.{ℕ, _≤_}
+use lib.Dec.{leb}
 use lib.ListN.{length}
-use borrow.Author.Tests.{le-leb}
+use borrow.Author.Tests.{leb-true, le-leb}
+use Rattle.numbers.specs.Pick.{pick}
 use Rattle.numbers.specs.Answer.{answered, refused}
+use Rattle.numbers.proofs.Answers.{told-apart}
 use Rattle.words.specs.Writes.{Write}
 use Rattle.words.specs.Commands.{expansion, wellFormed}
 use Rattle.registers.specs.State.{State, sized}
@@ -24,6 +27,19 @@ refused-list s l n p e = rw e
 -- A refused write leaves them as they were.
 pub refused-write : (s : State) (w : Write) (n p : ℕ) → writeAnswer s w ≡ refused n p → writeState s w ≡ s
 refused-write = refused-keeps
+
+-- a list that is read has passed the tests of 6 and 1, and its verdict
+by-tests : (s : State) (l : List ℕ) (n : ℕ) (a b : Bool) → sized s ≡ a → leb (length l) 65536 ≡ b
+    → pick a (pick b (verdict l) (refused 1 0)) (refused 6 0) ≡ answered n
+    → (sized s ≡ true) × (length l ≤ 65536) × (verdict l ≡ answered n)
+by-tests s l n true true t u e = (t, leb-true _ _ u, e)
+by-tests s l n true false t u e = absurd (told-apart (sym e))
+by-tests s l n false b t u e = absurd (told-apart (sym e))
+
+pub read-tested : (s : State) (l : List ℕ) (n : ℕ) → readAnswer s l ≡ answered n
+    → (sized s ≡ true) × (length l ≤ 65536) × (verdict l ≡ answered n)
+unfolding readAnswer
+read-tested s l n e = by-tests s l n (sized s) (leb (length l) 65536) refl refl e
 
 module _ (s : State) (l : List ℕ) (fits : sized s ≡ true) (short : length l ≤ 65536) where
   -- with buffers of the right lengths, a list of at most 65,536 words has the answer that its verdict has
