@@ -45,7 +45,7 @@ use Rattle.stores.specs.declared.Stored.{Stored}
 use Rattle.fragment.specs.Drawn.{unbuiltAt, outcomeOf}
 use Rattle.fragment.specs.declared.Outcome.{Outcome}
 use Rattle.fragment.specs.declared.Drawn.the-variants as drawn
-use Rattle.fragment.proofs.Widths.{drawn-decoded, drawn-within}
+use Rattle.fragment.proofs.Widths.{drawn-decoded, drawn-tested}
 use Rattle.demands.specs.FragmentRefusals.{DecodeRefused, DrawRefused, topOf}
 use Rattle.demands.specs.Refusals.{ReadRefused, WriteRefused, OneLength, PackRefused}
 use Rattle.demands.proofs.Calls.{WriteCall, ReadCall, PackCall, DecodeCall, DrawCall}
@@ -172,7 +172,7 @@ pub draw-answers : {s : State} {g : Given} {incoming : ℕ} {stored : Stored} {o
 draw-answers {s} {g} {incoming} {stored} {o} c =
     let d = drawn-decoded s g incoming stored o (sym (draw-call c)) in
     let r = done-only s incoming stored g o (d .1) in
-    (d .0, r .0, r .1, r .2, drawn-within (settingsOf s) g incoming stored o (d .1) .2)
+    (d .0, r .0, r .1, r .2, drawn-tested (settingsOf s) g incoming stored o (d .1) .3)
 
 -- DEMAND 3: "For any run of at most 4,096 writes that some accepted list could carry the packer's list has exactly that expansion, and no
 -- accepted list with that expansion has fewer words. "No room" always and only when the lent space is shorter than that, with the words

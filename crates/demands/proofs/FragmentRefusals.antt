@@ -19,6 +19,7 @@ use Rattle.decode.specs.declared.Decoded.the-variants as decoded
 use Rattle.decode.proofs.Lowest.{refused-lowest}
 use Rattle.decode.proofs.Cases.{decodable-held, else-refused}
 use Rattle.fragment.proofs.Unbuilt.{drawn-lowest}
+use Rattle.fragment.proofs.Widths.{drawn-tested}
 use Rattle.combiner.specs.declared.Given.{Given}
 use Rattle.stores.specs.declared.Stored.{Stored}
 use Rattle.fragment.specs.Drawn.{unbuiltAt, unbuiltId, outcomeOf, drawnWith, drawnFrom, drawnOf}
@@ -184,17 +185,6 @@ module _ (s : State) (incoming : ℕ) (stored : Stored) where
           inr (inl (record { number = z; decoded = l .0; held = h; why = l .1; lowest = l .2 }))
 
   -- AN ANSWER comes only where all of that passed
-  by-done : (o o′ : Outcome) (a b c : Bool) → eqb (unbuiltId x) 0 ≡ a → ltb (topOf s) incoming ≡ b → ltb (topOf s) (stored .depth) ≡ c
-      → Tested (drawn.Done o′) a b c ≡ drawn.Done o → (unbuiltId x ≡ 0) × (incoming ≤ topOf s) × (stored .depth ≤ topOf s)
-  by-done o o′ true true c v t u e = absurd (let z : _≡_ {A = ℕ} 0 1 = cc in omega arith)
-  by-done o o′ true false true v t u e = absurd (let z : _≡_ {A = ℕ} 0 1 = cc in omega arith)
-  by-done o o′ true false false v t u e =
-      (eqb-true (unbuiltId x) 0 v, ltb-false (topOf s) incoming t, ltb-false (topOf s) (stored .depth) u)
-  by-done o o′ false b c v t u e = absurd (let z : _≡_ {A = ℕ} 0 1 = cc in omega arith)
-
   pub done-only : (g : Given) (o : Outcome) → drawnWith (settingsOf s) g incoming stored ≡ drawn.Done o
       → ((j : ℕ) → unbuiltAt (settingsOf s) j ≡ false) × (incoming ≤ topOf s) × (stored .depth ≤ topOf s)
-  unfolding drawnWith
-  done-only g o e =
-      let r = by-done o (outcomeOf x g incoming stored) _ _ _ refl refl refl e in
-      (all-built x (r .0), r .1, r .2)
+  done-only g o e = let r = drawn-tested (settingsOf s) g incoming stored o e in (all-built x (r .0), r .1, r .2)

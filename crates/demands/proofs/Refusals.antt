@@ -2,7 +2,7 @@
 -- for that call, and its place is what the row says. Assumes nothing.
 use mathlib.Core.Path.{_≡_, refl, sym, ap, _∙_}
 use mathlib.Core.Bool.{Bool, true, false, not, _&&_}
-use mathlib.Core.List.{List, [], _∷_, _++_}
+use mathlib.Core.List.{List, [], _∷_}
 use mathlib.Core.Logic.{_⊎_, inl, inr}
 use Prim.Native.Nat.{ℕ, zero, suc, _+_, _≤_, _<_}
 use native.Mathlib.Omega.{arith}
@@ -23,7 +23,7 @@ use Rattle.registers.specs.Single.{refusalOf, atZero, writeAnswer}
 use Rattle.reader.specs.ListVerdict.{firstFault, commandFault, judge, verdict}
 use Rattle.reader.specs.Read.{readAnswer}
 use Rattle.reader.proofs.Accepted.{judge-none, judge-more}
-use Rattle.demands.specs.Refusals.{In, FaultNumber, Faultless, CommandRefused, ReadRefused, WriteRefused}
+use Rattle.demands.specs.Refusals.{In, FaultNumber, FirstAtFault, CommandRefused, ReadRefused, WriteRefused}
 
 -- A WRITE'S FAULT is 3, 4 or 5
 
@@ -70,16 +70,8 @@ by-whole l p true t n e z =
     inr (t, perhaps (3 ∷ 4 ∷ 5 ∷ []) n (rw e at (first-number (expand l p))) z, e)
 by-whole l p false t n e z = inl (sym e, t)
 
--- the first at fault of the commands at ps is the one at p
-record At (l ps : List ℕ) (n p : ℕ) : Type 0 where
-  earlier : List ℕ
-  later : List ℕ
-  place : ps ≡ earlier ++ p ∷ later
-  first : Faultless l earlier
-  why : ((n ≡ 2) × (whole l p ≡ false)) ⊎ ((whole l p ≡ true) × FaultNumber n × (firstFault (expand l p) ≡ n))
-
 by-command : (l ps : List ℕ) (q f : ℕ) (rest : Answer) (n p : ℕ) → commandFault l q ≡ f → unlessFault f q rest ≡ refused n p
-    → (rest ≡ refused n p → At l ps n p) → At l (q ∷ ps) n p
+    → (rest ≡ refused n p → FirstAtFault l ps n p) → FirstAtFault l (q ∷ ps) n p
 by-command l ps q zero rest n p c e more =
     let r = more e in
     let place = ap (λ (x : List ℕ). q ∷ x) (r .place) in
@@ -95,16 +87,14 @@ by-command l ps q (suc f) rest n p c e more =
       why = rw b (by-whole l q (whole l q) refl n (c ∙ a) (λ z. omega arith));
     }
 
-judge-refused : (l ps : List ℕ) (m n p : ℕ) → judge l ps m ≡ refused n p → At l ps n p
+judge-refused : (l ps : List ℕ) (m n p : ℕ) → judge l ps m ≡ refused n p → FirstAtFault l ps n p
 judge-refused l [] m n p e = absurd (told-apart (sym (judge-none l m) ∙ e))
 judge-refused l (q ∷ ps) m n p e =
     by-command l ps q (commandFault l q) _ n p refl (sym (judge-more l q ps m) ∙ e) (judge-refused l ps (m + length (expand l q)) n p)
 
 pub verdict-row : (l : List ℕ) (n p : ℕ) → verdict l ≡ refused n p → CommandRefused l n p
 unfolding verdict
-verdict-row l n p e =
-    let r = judge-refused l (commands l 0) 0 n p e in
-    record { earlier = r .earlier; later = r .later; place = r .place; first = r .first; why = r .why }
+verdict-row l n p e = judge-refused l (commands l 0) 0 n p e
 
 by-length : (s : State) (l : List ℕ) (n p : ℕ) (a b : Bool) → sized s ≡ a → leb (length l) 65536 ≡ b
     → pick a (pick b (verdict l) (refused 1 0)) (refused 6 0) ≡ refused n p → ReadRefused s l n p

@@ -26,14 +26,17 @@ abbrev pub Faultless : List ℕ → List ℕ → Type 0
 Faultless l [] = Unit {0}
 Faultless l (q ∷ qs) = (commandFault l q ≡ 0) × Faultless l qs
 
--- the command of the list at p, "its first word", is the first at fault: 2 where it needs more words than are left, else by its first
--- write at fault
-pub record CommandRefused (l : List ℕ) (n p : ℕ) : Type 0 where
+-- of the commands at the places ps the one at p, "its first word", is the first at fault: 2 where it needs more words than are left, else
+-- by its first write at fault
+pub record FirstAtFault (l ps : List ℕ) (n p : ℕ) : Type 0 where
   pub earlier : List ℕ
   pub later : List ℕ
-  pub place : commands l 0 ≡ earlier ++ p ∷ later
+  pub place : ps ≡ earlier ++ p ∷ later
   pub first : Faultless l earlier
   pub why : ((n ≡ 2) × (whole l p ≡ false)) ⊎ ((whole l p ≡ true) × FaultNumber n × (firstFault (expand l p) ≡ n))
+
+abbrev pub CommandRefused : List ℕ → ℕ → ℕ → Type 0
+CommandRefused l n p = FirstAtFault l (commands l 0) n p
 
 -- READING a list into a state: 6, 1, then its commands
 abbrev pub ReadRefused : State → List ℕ → ℕ → ℕ → Type 0

@@ -6,7 +6,7 @@ use Prim.Native.Nat.{ℕ, _-_, _<_, _≤_, _^_}
 use native.Mathlib.Omega.{arith}
 use lib.Bits.{bitAnd}
 use lib.Dec.{eqb, ltb}
-use borrow.Author.Tests.{ltb-false}
+use borrow.Author.Tests.{eqb-true, ltb-false}
 use Rattle.numbers.specs.Pick.{pick}
 use Rattle.settings.specs.declared.records.DepthColourMask.{DepthColourMask}
 use Rattle.settings.specs.declared.records.Framebuffer.{Framebuffer}
@@ -64,15 +64,15 @@ outcomeIn other (Refused r) = other
 not-refused : (o : Outcome) (r : Refusal) → Refused r ≡ Done o → ⊥
 not-refused o r e = let z : _≡_ {A = ℕ} 0 1 = cc in omega arith
 
-by-done : (e a b : Bool) (top incoming stored n : ℕ) (o o′ : Outcome) → ltb top incoming ≡ a → ltb top stored ≡ b
-    → pick e (pick a (refusal 12 0) (pick b (refusal 12 1) (Done o′))) (refusal 14 n) ≡ Done o
-    → (incoming ≤ top) × (stored ≤ top) × (o ≡ o′)
+by-done : (c a b : Bool) (top incoming stored n : ℕ) (o o′ : Outcome) → eqb n 0 ≡ c → ltb top incoming ≡ a → ltb top stored ≡ b
+    → pick c (pick a (refusal 12 0) (pick b (refusal 12 1) (Done o′))) (refusal 14 n) ≡ Done o
+    → (n ≡ 0) × (incoming ≤ top) × (stored ≤ top) × (o ≡ o′)
 unfolding outcomeIn
-by-done true true b top incoming stored n o o′ p q e = absurd (not-refused o _ e)
-by-done true false true top incoming stored n o o′ p q e = absurd (not-refused o _ e)
-by-done true false false top incoming stored n o o′ p q e =
-    (ltb-false top incoming p, ltb-false top stored q, sym (ap (outcomeIn o) e))
-by-done false a b top incoming stored n o o′ p q e = absurd (not-refused o _ e)
+by-done true true b top incoming stored n o o′ r p q e = absurd (not-refused o _ e)
+by-done true false true top incoming stored n o o′ r p q e = absurd (not-refused o _ e)
+by-done true false false top incoming stored n o o′ r p q e =
+    (eqb-true n 0 r, ltb-false top incoming p, ltb-false top stored q, sym (ap (outcomeIn o) e))
+by-done false a b top incoming stored n o o′ r p q e = absurd (not-refused o _ e)
 
 -- its state is decoded, and the answer goes by the settings
 module _ (s : State) (g : Given) (incoming : ℕ) (stored : Stored) (o : Outcome) where
@@ -109,18 +109,20 @@ module _ (s : Settings) (g : Given) (incoming : ℕ) (stored : Stored) where
   abbrev test : DepthColourMask
   test = s .framebuffer .tests .depth
 
-  -- its depths are numbers of the format's width
+  -- it is built, and its depths are at most the format's largest
+  pub drawn-tested : (o : Outcome) → drawnWith s g incoming stored ≡ Done o
+      → (unbuiltId s ≡ 0) × (incoming ≤ largest (s .framebuffer .buffers .«depth_format»))
+      × (stored .depth ≤ largest (s .framebuffer .buffers .«depth_format»)) × (o ≡ outcomeOf s g incoming stored)
+  unfolding drawnWith
+  drawn-tested o e =
+      by-done _ _ _ (largest format) incoming (stored .depth) (unbuiltId s) o (outcomeOf s g incoming stored) refl refl refl e
+
+  -- which are numbers of its width
   pub drawn-within : (o : Outcome) → drawnWith s g incoming stored ≡ Done o
       → (incoming < 2 ^ depthBits (s .framebuffer .buffers .«depth_format»))
       × (stored .depth < 2 ^ depthBits (s .framebuffer .buffers .«depth_format»))
-      × (o ≡ outcomeOf s g incoming stored)
-  unfolding drawnWith
   drawn-within o e =
-      let top = largest format in
-      let q =
-      by-done (eqb (unbuiltId s) 0) (ltb top incoming) (ltb top (stored .depth)) top incoming (stored .depth) (unbuiltId s) o
-      (outcomeOf s g incoming stored) refl refl e in
-      (within-bits format incoming (q .0), within-bits format (stored .depth) (q .1), q .2)
+      let r = drawn-tested o e in (within-bits format incoming (r .1), within-bits format (stored .depth) (r .2))
 
   -- THE TESTS AT THEIR WIDTHS
 
@@ -166,7 +168,7 @@ module _ (s : Settings) (g : Given) (incoming : ℕ) (stored : Stored) where
 
   module _ (o : Outcome) (e : drawnWith s g incoming stored ≡ Done o) where
     verdict-of : o .verdict ≡ outcomeOf s g incoming stored .verdict
-    verdict-of = ap (λ (x : Outcome). x .verdict) (drawn-within o e .2)
+    verdict-of = ap (λ (x : Outcome). x .verdict) (drawn-tested o e .3)
 
     full : stored .depth ≡ largest format → stored .depth ≡ 2 ^ depthBits format - 1
     full q = q ∙ largest-bits format
