@@ -1,27 +1,63 @@
--- A run that is packed in two parts: the parts' lists, joined, say the whole run, with at most two words more than its shortest list.
+-- A run that is packed in parts: the parts' lists, joined, say the whole run, with at most two words a seam more than its shortest list.
 -- Assumes nothing.
-use mathlib.Core.List.{List, _++_}
-use Prim.Native.Nat.{ℕ, _+_, _≤_}
+use mathlib.Core.Path.{_≡_, refl, _∙_}
+use mathlib.Core.List.{List, [], _∷_, _++_, append-nil}
+use Prim.Native.Nat.{ℕ, _+_, _*_, _≤_}
 use native.Mathlib.Omega.{arith}
 use lib.ListN.{length, length-append}
 use Rattle.words.specs.Writes.{Write}
 use Rattle.runs.specs.PackedList.{packed}
 use Rattle.runs.specs.Shortest.{Says}
+use Rattle.runs.proofs.PackedList.{packed-none}
 use Rattle.runs.proofs.Shortest.{packed-least, packed-shortest}
 use Rattle.runs.proofs.Seams.{packed-seam}
 use Rattle.runs.proofs.Joined.{joined-says}
 use Rattle.demands.specs.Said.{Said}
 use Rattle.demands.proofs.Said.{said-packable}
 
-module _ (a b : List Write) where
-  pub parts-say : Said a → Said b → Says (a ++ b) (packed a ++ packed b)
-  parts-say s t =
-      joined-says a b (packed a) (packed b) (packed-shortest a (said-packable a s) .says) (packed-shortest b (said-packable b t) .says)
+-- "At most two words a seam": two parts' shortest lists have at most two words more than any accepted list that says the whole run
+pub seam : (a b : List Write) (l : List ℕ) → Says (a ++ b) l → length (packed a) + length (packed b) ≤ length l + 2
+seam a b l s = omega (arith, packed-seam a b, packed-least (a ++ b) l s)
 
-  -- so the parts' words are no fewer than the whole run's
-  pub parts-bound : Said a → Said b → length (packed (a ++ b)) ≤ length (packed a) + length (packed b)
-  parts-bound s t = omega (arith, packed-least (a ++ b) (packed a ++ packed b) (parts-say s t), length-append (packed a) (packed b))
+-- ANY NUMBER OF PARTS: the run of all of them, their packed lists one after another, and the words of these
+abbrev pub joinedRun : List (List Write) → List Write
+joinedRun [] = []
+joinedRun (a ∷ rest) = a ++ joinedRun rest
 
-  -- "At most two words a seam": the parts' shortest lists have at most two words more than any accepted list that says the whole run
-  pub seam : (l : List ℕ) → Says (a ++ b) l → length (packed a) + length (packed b) ≤ length l + 2
-  seam l s = omega (arith, packed-seam a b, packed-least (a ++ b) l s)
+abbrev pub joinedLists : List (List Write) → List ℕ
+joinedLists [] = []
+joinedLists (a ∷ rest) = packed a ++ joinedLists rest
+
+abbrev pub joinedWords : List (List Write) → ℕ
+joinedWords [] = 0
+joinedWords (a ∷ rest) = length (packed a) + joinedWords rest
+
+words-of : (rs : List (List Write)) → length (joinedLists rs) ≡ joinedWords rs
+words-of [] = refl
+words-of (a ∷ rest) = length-append (packed a) (joinedLists rest) ∙ omega (arith, words-of rest)
+
+-- each part is one that some accepted list says
+abbrev pub EachSaid : List (List Write) → Type 0
+EachSaid [] = Unit {0}
+EachSaid (a ∷ rest) = Said a × EachSaid rest
+
+-- the lists joined say the whole run, of whatever length it is
+pub parts-say : (rs : List (List Write)) → EachSaid rs → Says (joinedRun rs) (joinedLists rs)
+parts-say [] s = let e = packed-none [] refl in rw e at (packed-shortest [] tt .says)
+parts-say (a ∷ rest) s =
+    joined-says a (joinedRun rest) (packed a) (joinedLists rest) (packed-shortest a (said-packable a (s .0)) .says)
+    (parts-say rest (s .1))
+
+-- so their words are no fewer than those of its shortest list
+pub parts-bound : (rs : List (List Write)) → EachSaid rs → length (packed (joinedRun rs)) ≤ joinedWords rs
+parts-bound rs s = omega (arith, packed-least (joinedRun rs) (joinedLists rs) (parts-say rs s), words-of rs)
+
+packed-seams : (a : List Write) (rest : List (List Write))
+    → joinedWords (a ∷ rest) ≤ length (packed (joinedRun (a ∷ rest))) + 2 * length rest
+packed-seams a [] = rw (append-nil a) (omega arith)
+packed-seams a (b ∷ bs) = omega (arith, packed-seams b bs, packed-seam a (joinedRun (b ∷ bs)))
+
+-- and at most two words a seam more than those of any accepted list that says it
+pub seams : (a : List Write) (rest : List (List Write)) (l : List ℕ) → Says (joinedRun (a ∷ rest)) l
+    → joinedWords (a ∷ rest) ≤ length l + 2 * length rest
+seams a rest l s = omega (arith, packed-seams a rest, packed-least (joinedRun (a ∷ rest)) l s)
