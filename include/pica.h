@@ -1,7 +1,7 @@
 /*
  * Ilgadeuk's C functions: command lists of the PICA200 read, written, decoded and packed, and one fragment's result.
  *
- * Link libcapi.a, which is for x86-64 Linux and needs nothing but the C library.
+ * Link libpica.a, which is for x86-64 Linux and needs nothing but the C library.
  *
  * ANSWERS. Each function answers one 64-bit number. Its high 32 bits are 0 where the call was answered, else the number of the
  * refusal; its low 32 bits are the answer, or the refusal's place. pica_number() and pica_value() take it apart. A place that is

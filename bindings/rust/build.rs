@@ -6,18 +6,18 @@ fn main() {
     let named = env::var_os("PICA_LIB_DIR").map(PathBuf::from);
     let own = PathBuf::from(env!("CARGO_MANIFEST_DIR")).join("../../target/staticlib");
     let folder = named.as_ref().unwrap_or(&own);
-    let archive = folder.join("libcapi.a");
+    let archive = folder.join("libpica.a");
     println!("cargo:rerun-if-env-changed=PICA_LIB_DIR");
     println!("cargo:rerun-if-changed={}", archive.display());
     println!("cargo:rustc-link-search=native={}", folder.display());
-    println!("cargo:rustc-link-lib=static=capi");
+    println!("cargo:rustc-link-lib=static=pica");
 
     // Warnings, and no failure: what is only checked or documented needs no archive, and where one is needed the linker fails.
     if !archive.is_file() {
         let what_to_do = if named.is_some() {
             "PICA_LIB_DIR must name the folder that holds it"
         } else {
-            "run `rt staticlib capi` in the repository's root, or set PICA_LIB_DIR to the folder that holds it"
+            "run `rt staticlib pica` in the repository's root, or set PICA_LIB_DIR to the folder that holds it"
         };
         println!(
             "cargo:warning=there is no {}: {what_to_do}",

@@ -12,10 +12,10 @@ fn main() {
         }
     };
     println!("cargo:rustc-link-search=native={}", folder.display());
-    println!("cargo:rustc-link-lib=static=capi");
+    println!("cargo:rustc-link-lib=static=pica");
     println!(
         "cargo:rerun-if-changed={}",
-        folder.join("libcapi.a").display()
+        folder.join("libpica.a").display()
     );
     println!("cargo:rerun-if-env-changed=PICA_LIB_DIR");
 }

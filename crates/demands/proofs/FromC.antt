@@ -23,8 +23,8 @@ use Rattle.decode.specs.declared.Decoded.the-variants as decoded
 use Rattle.stores.specs.Tests.{verdictNumber}
 use Rattle.fragment.specs.declared.Drawn.{Drawn}
 use Rattle.fragment.specs.declared.Drawn.the-variants as drawn
-use Rattle.capi.specs.Calls.{call, answer, decodeCall, givenOf, storedOf, fragmentOf, fragmentCall}
-use Rattle.capi.proofs.Uncut.{valueIn, read-uncut, write-uncut, pack-uncut, placeOf, decode-uncut, drawnValue, fragment-uncut}
+use Rattle.pica.specs.Calls.{call, answer, decodeCall, givenOf, storedOf, fragmentOf, fragmentCall}
+use Rattle.pica.proofs.Uncut.{valueIn, read-uncut, write-uncut, pack-uncut, placeOf, decode-uncut, drawnValue, fragment-uncut}
 use Rattle.demands.specs.Refusals.{In, FaultNumber, ReadRefused, WriteRefused, PackRefused}
 use Rattle.demands.specs.FragmentRefusals.{DecodeRefused, DrawRefused}
 use Rattle.demands.proofs.Refusals.{read-row, write-row}

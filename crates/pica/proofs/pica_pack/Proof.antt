@@ -1,7 +1,7 @@
 -- By what packing answers. Assumes nothing.
 use borrow.Author.Needs.{needs}
-use Rattle.capi.proofs.pica_pack.Statement.{statement}
-use Rattle.capi.proofs.pica_pack.Tie as tie
+use Rattle.pica.proofs.pica_pack.Statement.{statement}
+use Rattle.pica.proofs.pica_pack.Tie as tie
 
 pack-requires : tie.Need-pack-requires
 pack-requires c κs = search needs

@@ -1,6 +1,6 @@
 // The words that a fragment is given, and those that are stored; a colour as `settings` packs it. The contracts cite specs/Calls.antt.
 ghost use mathlib.Core.Path.{_≡_};
-ghost use Rattle.capi.specs.Calls.{givenOf, storedOf, storedWords};
+ghost use Rattle.pica.specs.Calls.{givenOf, storedOf, storedWords};
 use combiner::Given;
 use settings::colours;
 use stores::Stored;

@@ -11,17 +11,17 @@ use Rattle.registers.specs.Single.{writeAnswer, writeState}
 use Rattle.reader.specs.Read.{readAnswer, readState}
 use Rattle.packer.specs.Packing.{packAnswer, packSpace}
 use Rattle.decode.specs.Decoded.{decodedOf}
-use Rattle.capi.specs.Calls.{answer, decodeCall, fieldsAfter, fragmentOf, fragmentCall, storedWordsAfter}
-use Rattle.capi.proofs.pica_read.Reads as read
-use Rattle.capi.proofs.pica_read.Kinds as read-kinds
-use Rattle.capi.proofs.pica_write.Reads as write
-use Rattle.capi.proofs.pica_write.Kinds as write-kinds
-use Rattle.capi.proofs.pica_pack.Reads as pack
-use Rattle.capi.proofs.pica_pack.Kinds as pack-kinds
-use Rattle.capi.proofs.pica_decode.Reads as decode
-use Rattle.capi.proofs.pica_decode.Kinds as decode-kinds
-use Rattle.capi.proofs.pica_fragment.Reads as fragment
-use Rattle.capi.proofs.pica_fragment.Kinds as fragment-kinds
+use Rattle.pica.specs.Calls.{answer, decodeCall, fieldsAfter, fragmentOf, fragmentCall, storedWordsAfter}
+use Rattle.pica.proofs.pica_read.Reads as read
+use Rattle.pica.proofs.pica_read.Kinds as read-kinds
+use Rattle.pica.proofs.pica_write.Reads as write
+use Rattle.pica.proofs.pica_write.Kinds as write-kinds
+use Rattle.pica.proofs.pica_pack.Reads as pack
+use Rattle.pica.proofs.pica_pack.Kinds as pack-kinds
+use Rattle.pica.proofs.pica_decode.Reads as decode
+use Rattle.pica.proofs.pica_decode.Kinds as decode-kinds
+use Rattle.pica.proofs.pica_fragment.Reads as fragment
+use Rattle.pica.proofs.pica_fragment.Kinds as fragment-kinds
 
 pub pica-read-settled : (κs : Lfts 4) (a : Dens κs read-kinds.ps)
     → Settles (λ e. st (now (e .0)) (now (e .1 .0)) (now (e .1 .1 .0))) (read.Post κs a)

@@ -39,7 +39,7 @@ use Rattle.stores.specs.declared.Verdict.the-variants as verdicts
 use Rattle.stores.specs.declared.Stored.{Stored}
 use Rattle.fragment.specs.declared.Drawn.{Drawn}
 use Rattle.fragment.specs.declared.Drawn.the-variants as drawn
-use Rattle.capi.specs.Calls.{call}
+use Rattle.pica.specs.Calls.{call}
 
 -- what a call's low 32 bits are to hold
 abbrev pub valueIn : Answer → ℕ

@@ -1,7 +1,7 @@
 -- By what the single write answers. Assumes nothing.
 use borrow.Author.Needs.{needs}
-use Rattle.capi.proofs.pica_write.Statement.{statement}
-use Rattle.capi.proofs.pica_write.Tie as tie
+use Rattle.pica.proofs.pica_write.Statement.{statement}
+use Rattle.pica.proofs.pica_write.Tie as tie
 
 write-requires : tie.Need-write-requires
 write-requires c κs = search needs

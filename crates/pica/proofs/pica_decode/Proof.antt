@@ -1,7 +1,7 @@
 -- By what decoding answers. Assumes nothing.
 use borrow.Author.Needs.{needs}
-use Rattle.capi.proofs.pica_decode.Statement.{statement}
-use Rattle.capi.proofs.pica_decode.Tie as tie
+use Rattle.pica.proofs.pica_decode.Statement.{statement}
+use Rattle.pica.proofs.pica_decode.Tie as tie
 
 decode-requires : tie.Need-decode-requires
 decode-requires c κs = search needs

@@ -9,7 +9,7 @@ ghost use Rattle.reader.specs.Read.{readAnswer, readState};
 ghost use Rattle.packer.specs.Packing.{packAnswer, packSpace};
 ghost use Rattle.decode.specs.Decoded.{decodedOf};
 ghost use Rattle.stores.specs.Tests.{verdictNumber};
-ghost use Rattle.capi.specs.Calls.{call, answer, decodeCall, fieldsAfter, fragmentOf, fragmentCall, storedWordsAfter};
+ghost use Rattle.pica.specs.Calls.{call, answer, decodeCall, fieldsAfter, fragmentOf, fragmentCall, storedWordsAfter};
 use decode::Decoded;
 use fragment::Drawn;
 use packer::Packed;

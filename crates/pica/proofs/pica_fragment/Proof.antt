@@ -1,7 +1,7 @@
 -- By what drawing answers. Assumes nothing.
 use borrow.Author.Needs.{needs}
-use Rattle.capi.proofs.pica_fragment.Statement.{statement}
-use Rattle.capi.proofs.pica_fragment.Tie as tie
+use Rattle.pica.proofs.pica_fragment.Statement.{statement}
+use Rattle.pica.proofs.pica_fragment.Tie as tie
 
 given-of-requires : tie.Need-given-of-requires
 given-of-requires c κs = search needs

@@ -1,7 +1,7 @@
 -- By what reading answers. Assumes nothing.
 use borrow.Author.Needs.{needs}
-use Rattle.capi.proofs.pica_read.Statement.{statement}
-use Rattle.capi.proofs.pica_read.Tie as tie
+use Rattle.pica.proofs.pica_read.Statement.{statement}
+use Rattle.pica.proofs.pica_read.Tie as tie
 
 read-requires : tie.Need-read-requires
 read-requires c κs = search needs

@@ -1,7 +1,7 @@
 -- As the calls ensure. Assumes nothing.
 use borrow.Author.Needs.{needs}
-use Rattle.capi.proofs.colours.given_of.Statement.{statement}
-use Rattle.capi.proofs.colours.given_of.Tie as tie
+use Rattle.pica.proofs.colours.given_of.Statement.{statement}
+use Rattle.pica.proofs.colours.given_of.Tie as tie
 
 element-copy-out-colour-of : tie.Need-element-copy-out-colour-of
 element-copy-out-colour-of c = search needs
