@@ -9,6 +9,7 @@ use lib.ListN.{length}
 use borrow.Author.Tests.{ltb-true, leb-true, eqb-true}
 use Rattle.numbers.specs.Pick.{pick}
 use Rattle.numbers.specs.Answer.{Answer, answered, refused, unlessFault}
+use Rattle.numbers.specs.Room.{andThen, ifRoom}
 use Rattle.numbers.proofs.Tests.{and-true}
 use Rattle.numbers.proofs.Picks.{pick-either}
 use Rattle.words.specs.Header.{countOf, wordsOf}
@@ -23,7 +24,7 @@ use Rattle.runs.specs.PackedList.{writes, packed}
 use Rattle.runs.proofs.PackedList.{packed-short}
 use Rattle.runs.proofs.Writes.{writes-length}
 use Rattle.packer.specs.Checks.{wrong, firstWrong, checkAnswer}
-use Rattle.packer.specs.Packing.{ifRoom, andThen, packAnswer}
+use Rattle.packer.specs.Packing.{packAnswer}
 use Rattle.packer.proofs.Checks.{check-given}
 use Rattle.decode.specs.Codes.{Check, stageChecks, frameChecks, checks, firstOf, lowest}
 use Rattle.decode.specs.Decoded.{settingsOf, namelessId, refusal, decodedOf}
@@ -128,17 +129,17 @@ check-uncut : (is ms vs : List ℕ) → valueIn (checkAnswer is ms vs) ≤ 65536
 unfolding checkAnswer
 check-uncut is ms vs = by-level is ms vs (eqb (length is) (length ms) && eqb (length is) (length vs)) (leb (length is) 4096) refl refl
 
-room-value : (l : List ℕ) (room : ℕ) (b : Bool) → valueIn (pick b (answered (length l)) (refused 10 (length l))) ≡ length l
-room-value l room true = refl
-room-value l room false = refl
+room-value : (number need : ℕ) (b : Bool) → valueIn (pick b (answered need) (refused number need)) ≡ need
+room-value number need true = refl
+room-value number need false = refl
 
 by-check : (is ms vs : List ℕ) (room : ℕ) (a : Answer) → checkAnswer is ms vs ≡ a
-    → valueIn (andThen a (ifRoom (packed (writes is ms vs)) room)) ≤ 65536
+    → valueIn (andThen a (ifRoom 10 (length (packed (writes is ms vs))) room)) ≤ 65536
 by-check is ms vs room (answered n) e =
     let g = check-given is ms vs n e in
     let ws = writes is ms vs in
     let l = writes-length is ms vs (g .masks) (g .values) in
-    omega (arith, room-value (packed ws) room (leb (length (packed ws)) room), packed-short ws, l, g .few)
+    omega (arith, room-value 10 (length (packed ws)) (leb (length (packed ws)) room), packed-short ws, l, g .few)
 by-check is ms vs room (refused r p) e = let h : valueIn (checkAnswer is ms vs) ≤ 65536 = check-uncut is ms vs in rw e at h
 
 pub pack-uncut : (is ms vs : List ℕ) (room : ℕ) → valueIn (packAnswer is ms vs room) ≤ 65536
