@@ -14,12 +14,14 @@ use Rattle.numbers.proofs.Tests.{and-true}
 use Rattle.numbers.proofs.Picks.{pick-either}
 use Rattle.words.specs.Header.{countOf, wordsOf}
 use Rattle.words.specs.Writes.{Write}
-use Rattle.words.specs.Commands.{headerAt, whole, expand, places, commands}
+use Rattle.words.specs.Commands.{headerAt, whole, expand, places, commands, expansion}
 use Rattle.words.proofs.Laws.{run-length}
 use Rattle.registers.specs.State.{State, sized}
 use Rattle.registers.specs.Single.{atZero, refusalOf, writeAnswer}
 use Rattle.reader.specs.ListVerdict.{firstFault, commandFault, judge, verdict}
 use Rattle.reader.specs.Read.{readAnswer}
+use Rattle.reader.proofs.Accepted.{verdict-accepted}
+use Rattle.writes.specs.Listed.{writesAnswer}
 use Rattle.runs.specs.PackedList.{writes, packed}
 use Rattle.runs.proofs.PackedList.{packed-short}
 use Rattle.runs.proofs.Writes.{writes-length}
@@ -103,6 +105,36 @@ at-zero (suc n) = refl
 pub write-uncut : (s : State) (w : Write) → valueIn (writeAnswer s w) ≤ 65536
 write-uncut s w = omega (arith, at-zero (refusalOf s w))
 
+-- where there is room, or none, the value is what is needed
+room-value : (number need : ℕ) (b : Bool) → valueIn (pick b (answered need) (refused number need)) ≡ need
+room-value number need true = refl
+room-value number need false = refl
+
+-- THE WRITES OF A LIST
+
+-- a list has no more writes than words
+few-writes : (l : List ℕ) (n : ℕ) → verdict l ≡ answered n → length (expansion l) ≤ length l
+few-writes l n e =
+    let h : valueIn (verdict l) ≤ length l = verdict-uncut l in
+    let z : n ≤ length l = rw e at h in omega (arith, verdict-accepted l n e .2)
+
+by-verdict : (l : List ℕ) (room : ℕ) (a : Answer) → length l ≤ 65536 → verdict l ≡ a
+    → valueIn (andThen a (ifRoom 22 (length (expansion l)) room)) ≤ 65536
+by-verdict l room (answered n) h e =
+    let w = length (expansion l) in omega (arith, room-value 22 w (leb w room), few-writes l n e)
+by-verdict l room (refused r p) h e = let g : valueIn (verdict l) ≤ length l = verdict-uncut l in omega (arith, rw e at g)
+
+by-lengths : (l : List ℕ) (room : ℕ) (a b : Bool) → leb (length l) 65536 ≡ b
+    → valueIn (pick a (pick b (andThen (verdict l) (ifRoom 22 (length (expansion l)) room)) (refused 1 0)) (refused 7 0)) ≤ 65536
+by-lengths l room true true e = by-verdict l room (verdict l) (leb-true _ _ e) refl
+by-lengths l room true false e = omega arith
+by-lengths l room false b e = omega arith
+
+pub writes-uncut : (l is ms vs : List ℕ) → valueIn (writesAnswer l is ms vs) ≤ 65536
+unfolding writesAnswer
+writes-uncut l is ms vs =
+    by-lengths l (length is) (eqb (length is) (length ms) && eqb (length is) (length vs)) (leb (length l) 65536) refl
+
 -- PACKING
 
 unless-wrong : (f p b : ℕ) (rest : Answer) → p ≤ b → valueIn rest ≤ b → valueIn (unlessFault f p rest) ≤ b
@@ -128,10 +160,6 @@ by-level is ms vs false b e f = omega arith
 check-uncut : (is ms vs : List ℕ) → valueIn (checkAnswer is ms vs) ≤ 65536
 unfolding checkAnswer
 check-uncut is ms vs = by-level is ms vs (eqb (length is) (length ms) && eqb (length is) (length vs)) (leb (length is) 4096) refl refl
-
-room-value : (number need : ℕ) (b : Bool) → valueIn (pick b (answered need) (refused number need)) ≡ need
-room-value number need true = refl
-room-value number need false = refl
 
 by-check : (is ms vs : List ℕ) (room : ℕ) (a : Answer) → checkAnswer is ms vs ≡ a
     → valueIn (andThen a (ifRoom 10 (length (packed (writes is ms vs))) room)) ≤ 65536
