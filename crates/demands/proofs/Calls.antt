@@ -19,6 +19,9 @@ use Rattle.reader.specs.Read.{told as read-told, readAnswer, readState}
 use Rattle.reader.specs.declared.ListVerdict.{ListVerdict}
 use Rattle.reader.proofs.read.Reads as read
 use Rattle.reader.proofs.read.Kinds as read-kinds
+use Rattle.writes.specs.Listed.{writesAnswer, writesIds, writesMasks, writesValues}
+use Rattle.writes.proofs.writes_of.Reads as writes
+use Rattle.writes.proofs.writes_of.Kinds as writes-kinds
 use Rattle.decode.specs.Decoded.{decodedOf}
 use Rattle.decode.specs.declared.Decoded.{Decoded}
 use Rattle.decode.proofs.decode.Reads as decode
@@ -53,6 +56,20 @@ pub record ReadCall (s : State) (l : List ℕ) (answer : ListVerdict) (t : State
   pub state : st (now (lent .0)) (now (lent .1 .0)) (now (lent .1 .1 .0)) ≡ s
   pub list : now (lent .1 .1 .1 .0) ≡ l
   pub after : st (now (left .0)) (now (left .1 .0)) (now (left .1 .1 .0)) ≡ t
+
+-- `writes::writes_of`, lent the list l, which it only reads, and ids, masks and values
+pub record WritesCall (l is ms vs : List ℕ) (answer : ListVerdict) (is′ ms′ vs′ : List ℕ) : Type 0 where
+  pub lifetimes : Lfts 4
+  pub lent : Dens lifetimes writes-kinds.ps
+  pub left : AtExit (endedOf 4 writes-kinds.ps writes-kinds.r) lifetimes
+  pub promise : writes.Post lifetimes lent answer left
+  pub list : now (lent .0) ≡ l
+  pub ids : now (lent .1 .0) ≡ is
+  pub masks : now (lent .1 .1 .0) ≡ ms
+  pub values : now (lent .1 .1 .1 .0) ≡ vs
+  pub ids-after : now (left .1 .0) ≡ is′
+  pub masks-after : now (left .1 .1 .0) ≡ ms′
+  pub values-after : now (left .1 .1 .1 .0) ≡ vs′
 
 -- `packer::pack`, lent ids, masks and values, and the space
 pub record PackCall (is ms vs old : List ℕ) (answer : Packed) (new : List ℕ) : Type 0 where
@@ -92,6 +109,12 @@ write-call c = rw (← c .state, ← c .given, ← c .after) (c .promise)
 
 pub read-call : {s t : State} {l : List ℕ} {a : ListVerdict} → ReadCall s l a t → (read-told a ≡ readAnswer s l) × (t ≡ readState s l)
 read-call c = rw (← c .state, ← c .list, ← c .after) (c .promise)
+
+pub writes-call : {l is ms vs is′ ms′ vs′ : List ℕ} {a : ListVerdict} → WritesCall l is ms vs a is′ ms′ vs′
+    → (read-told a ≡ writesAnswer l is ms vs) × (is′ ≡ writesIds l is ms vs) × (ms′ ≡ writesMasks l is ms vs) × (vs′ ≡ writesValues l is ms vs)
+writes-call c =
+    let p = rw (c .list, c .ids, c .masks, c .values, c .ids-after, c .masks-after, c .values-after) at (c .promise) in
+    (p .0, p .1 .0, p .1 .1 .0, p .1 .1 .1)
 
 pub pack-call : {is ms vs old new : List ℕ} {a : Packed} → PackCall is ms vs old a new
     → (pack-told a ≡ packAnswer is ms vs (length old)) × (new ≡ packSpace is ms vs old)

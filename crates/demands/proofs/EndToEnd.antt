@@ -27,7 +27,7 @@ use Rattle.reader.specs.Read.{readAnswer, readState}
 use Rattle.reader.specs.declared.ListVerdict.{ListVerdict}
 use Rattle.reader.specs.declared.ListVerdict.the-variants as list-verdict
 use Rattle.reader.proofs.Once.{told-one}
-use Rattle.runs.specs.PackedList.{writes, packed}
+use Rattle.runs.specs.PackedList.{writes, PackableRun, packed}
 use Rattle.runs.specs.Shortest.{Says, Shortest}
 use Rattle.runs.proofs.Writes.{writes-length}
 use Rattle.runs.proofs.Shortest.{packed-shortest}
@@ -135,19 +135,23 @@ write-leaves {s} {t} {w} c =
     let a = not-refused s w (r .0) in
     (a .0, a .1, a .2, r .1)
 
+-- where words are answered, the run can be packed, and its list stands in the space
+pub packed-put : {is ms vs old new : List ℕ} {n : ℕ} → PackCall is ms vs old (packer.Words n) new
+    → PackableRun is ms vs × (take n new ≡ packed (writes is ms vs))
+packed-put {is} {ms} {vs} {old} {new} {n} p =
+    let k = pack-call p in
+    let a = answered-then is ms vs (length old) n (sym (k .0)) in
+    let G = a .0 in
+    let fits = room is ms vs (G .masks, G .values) (G .few) (given-said is ms vs G) old (omega (arith, a .1, a .2)) in
+    (G, ap (take n) (k .1 ∙ fits .1) ∙ take-at (packed (writes is ms vs)) _ n (sym (a .1)))
+
 -- "A packed list reads back as the writes that were given": what `pack` put into the space, read by `read` into any state
 pub pack-then-read : {is ms vs old new : List ℕ} {n : ℕ} {s t : State} {r : ListVerdict} → PackCall is ms vs old (packer.Words n) new
     → ReadCall s (take n new) r t → sized s ≡ true → (r ≡ list-verdict.Accepted (length is)) × (t ≡ applyAll s (writes is ms vs))
 pack-then-read {is} {ms} {vs} {old} {new} {n} {s} {t} {r} p c z =
-    let k = pack-call p in
-    let a = answered-then is ms vs (length old) n (sym (k .0)) in
-    let G = a .0 in
-    let level : OneLength is ms vs = (G .masks, G .values) in
-    let said = given-said is ms vs G in
-    let fits = room is ms vs level (G .few) said old (omega (arith, a .1, a .2)) in
-    let put : take n new ≡ packed (writes is ms vs) =
-    ap (take n) (k .1 ∙ fits .1) ∙ take-at (packed (writes is ms vs)) _ n (sym (a .1)) in
-    let back = reads-back is ms vs level (G .few) said s z in
+    let G = packed-put p .0 in
+    let put = packed-put p .1 in
+    let back = reads-back is ms vs (G .masks, G .values) (G .few) (given-said is ms vs G) s z in
     let q = read-call c in
     let e = q .0 ∙ ap (readAnswer s) put ∙ back .0 ∙ ap answered (writes-length is ms vs (G .masks) (G .values)) in
     (told-one r (list-verdict.Accepted (length is)) e, q .1 ∙ ap (readState s) put ∙ back .2)

@@ -16,6 +16,7 @@ use Rattle.words.specs.declared.Refusal.{Refusal}
 use Rattle.registers.specs.State.{State}
 use Rattle.registers.specs.Single.{writeAnswer}
 use Rattle.reader.specs.Read.{readAnswer}
+use Rattle.writes.specs.Listed.{writesAnswer}
 use Rattle.packer.specs.Packing.{packAnswer}
 use Rattle.decode.specs.Decoded.{decodedOf}
 use Rattle.decode.specs.declared.Decoded.{Decoded}
@@ -24,11 +25,12 @@ use Rattle.stores.specs.Tests.{verdictNumber}
 use Rattle.fragment.specs.declared.Drawn.{Drawn}
 use Rattle.fragment.specs.declared.Drawn.the-variants as drawn
 use Rattle.pica.specs.Calls.{call, answer, decodeCall, givenOf, storedOf, fragmentOf, fragmentCall}
-use Rattle.pica.proofs.Uncut.{valueIn, read-uncut, write-uncut, pack-uncut, placeOf, decode-uncut, drawnValue, fragment-uncut}
-use Rattle.demands.specs.Refusals.{In, FaultNumber, ReadRefused, WriteRefused, PackRefused}
+use Rattle.pica.proofs.Uncut.{valueIn, read-uncut, write-uncut, writes-uncut, pack-uncut, placeOf, decode-uncut, drawnValue, fragment-uncut}
+use Rattle.demands.specs.Refusals.{In, FaultNumber, CommandRefused, ReadRefused, WriteRefused, WritesRefused, PackRefused}
 use Rattle.demands.specs.FragmentRefusals.{DecodeRefused, DrawRefused}
 use Rattle.demands.proofs.Refusals.{read-row, write-row}
 use Rattle.demands.proofs.RunRefusals.{pack-row}
+use Rattle.demands.proofs.Listed.{writes-row}
 use Rattle.demands.proofs.FragmentRefusals.{decode-row, draw-row}
 
 -- high 32 bits the refusal's number, 0 for none; low 32 bits the answer or the place
@@ -59,10 +61,13 @@ fault-numbered n (inr (inl e)) z = omega arith
 fault-numbered n (inr (inr (inl e))) z = omega arith
 fault-numbered n (inr (inr (inr e))) z = e
 
+command-numbered : (l : List ℕ) (n p : ℕ) → CommandRefused l n p → n ≡ 0 → ⊥
+command-numbered l n p r z = ⊎-elim (λ x. omega (arith, x .0)) (λ x. fault-numbered n (x .1) z) (r .why)
+
 read-numbered : (s : State) (l : List ℕ) (n p : ℕ) → ReadRefused s l n p → n ≡ 0 → ⊥
 read-numbered s l n p (inl r) z = omega (arith, r .0)
 read-numbered s l n p (inr (inl r)) z = omega (arith, r .0)
-read-numbered s l n p (inr (inr r)) z = ⊎-elim (λ x. omega (arith, x .0)) (λ x. fault-numbered n (x .1) z) (r .2 .why)
+read-numbered s l n p (inr (inr r)) z = command-numbered l n p (r .2) z
 
 write-numbered : (s : State) (w : Write) (n p : ℕ) → WriteRefused s w n p → n ≡ 0 → ⊥
 write-numbered s w n p r z =
@@ -78,12 +83,22 @@ pack-numbered is ms vs room n p (inl (inr (inl r))) z = omega (arith, r .0)
 pack-numbered is ms vs room n p (inl (inr (inr r))) z = one-numbered n (r .2 .why .0) z
 pack-numbered is ms vs room n p (inr r) z = omega (arith, r .0)
 
--- WHAT IS TAKEN OUT of the numbers that the promises of `pica_read`, `pica_write` and `pica_pack` give
+writes-numbered : (l is ms vs : List ℕ) (n p : ℕ) → WritesRefused l is ms vs n p → n ≡ 0 → ⊥
+writes-numbered l is ms vs n p (inl r) z = omega (arith, r .0)
+writes-numbered l is ms vs n p (inr (inl r)) z = omega (arith, r .0)
+writes-numbered l is ms vs n p (inr (inr (inl r))) z = command-numbered l n p (r .2) z
+writes-numbered l is ms vs n p (inr (inr (inr r))) z = omega (arith, r .0)
+
+-- WHAT IS TAKEN OUT of the numbers that the promises of `pica_read`, `pica_write`, `pica_writes` and `pica_pack` give
 pub read-taken : (s : State) (l : List ℕ) → asTaken (answer (readAnswer s l)) ≡ readAnswer s l
 read-taken s l = taken (readAnswer s l) (read-uncut s l) (λ n p e. read-numbered s l n p (read-row s l n p e))
 
 pub write-taken : (s : State) (w : Write) → asTaken (answer (writeAnswer s w)) ≡ writeAnswer s w
 write-taken s w = taken (writeAnswer s w) (write-uncut s w) (λ n p e. write-numbered s w n p (write-row s w n p e))
+
+pub writes-taken : (l is ms vs : List ℕ) → asTaken (answer (writesAnswer l is ms vs)) ≡ writesAnswer l is ms vs
+writes-taken l is ms vs =
+    taken (writesAnswer l is ms vs) (writes-uncut l is ms vs) (λ n p e. writes-numbered l is ms vs n p (writes-row l is ms vs n p e))
 
 pub pack-taken : (is ms vs : List ℕ) (room : ℕ) → asTaken (answer (packAnswer is ms vs room)) ≡ packAnswer is ms vs room
 pack-taken is ms vs room =

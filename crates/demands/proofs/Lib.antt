@@ -1,9 +1,11 @@
 pub mod Unheld
 pub mod Alike
+pub mod Lengths
 pub mod NeverRead
 pub mod Reading
 pub mod Refusals
 pub mod RunRefusals
+pub mod Listed
 pub mod FragmentRefusals
 pub mod Said
 pub mod Packing
@@ -12,4 +14,5 @@ pub mod Examples
 pub mod Drawing
 pub mod Calls
 pub mod EndToEnd
+pub mod Between
 pub mod FromC

@@ -16,6 +16,7 @@ use Rattle.registers.specs.State.{State, st}
 use Rattle.registers.specs.Held.{held, bitsIn, bitsOf}
 use Rattle.ports.specs.Ports.{entry, rise, fogIndex, fogCells, fogEntries, lightTable, lightPlace, named, lightCells, lightEntries}
 use Rattle.registers.specs.Applied.{cellsAfter, put, apply, applyAll}
+use Rattle.demands.proofs.Lengths.{fog-cells-long, fog-long, light-cells-long, light-long, cells-long}
 use Rattle.demands.proofs.Alike.{Alike, heldIn, low, set-alike, merge-alike}
 
 -- the held bits of the light index, risen, go by the held bits alone
@@ -27,30 +28,6 @@ rise-low x =
     let high : x / 256 ≡ 32 * (x / 8192) + x % 8192 / 256 = omega arith in
     let index : x % 256 ≡ x % 8192 % 256 = omega arith in
     rw (high, index) (fold (x / 8192) (x % 8192 / 256) ((x % 8192 % 256 + 1) % 256) (omega arith) (omega arith))
-
--- LENGTHS stay
-fog-cells-long : (c : List ℕ) → length (fogCells c) ≡ length c
-unfolding fogCells
-fog-cells-long c = length-set c 0xE6 (rise 128 (getD c 0xE6 0))
-
-fog-long : (c f : List ℕ) (v : ℕ) → length (fogEntries c f v) ≡ length f
-unfolding fogEntries
-fog-long c f v = length-set f (fogIndex c) (entry (getD f (fogIndex c) 0) v)
-
-light-cells-long : (c : List ℕ) → length (lightCells c) ≡ length c
-unfolding lightCells
-light-cells-long c = length-set c 0x1C5 (rise 256 (getD c 0x1C5 0))
-
-light-long : (c l : List ℕ) (v : ℕ) → length (lightEntries c l v) ≡ length l
-unfolding lightEntries
-light-long c l v =
-    pick-either (λ (k : List ℕ). length k ≡ length l) (named (lightTable c))
-    (length-set l (lightPlace c) (entry (getD l (lightPlace c) 0) v)) refl
-
-cells-long : (c : List ℕ) (i e v : ℕ) → length (cellsAfter c i e v) ≡ length c
-unfolding cellsAfter
-cells-long c i e v =
-    pick-either (λ (k : List ℕ). length k ≡ length c) (eqb (bitsOf i) 0) refl (length-set c i (merge (bitAnd (bitsOf i) e) (getD c i 0) v))
 
 module _ (s t : State) (a : Alike s t) where
   cells-alike : (i m v j : ℕ) → heldIn (cellsAfter (s .cells) i (spread m) v) j ≡ heldIn (cellsAfter (t .cells) i (spread m) v) j

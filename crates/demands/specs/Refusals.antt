@@ -6,9 +6,9 @@ use mathlib.Core.Logic.{_⊎_}
 use Prim.Native.Nat.{ℕ, _≤_, _<_}
 use lib.ListN.{length, getD}
 use Rattle.words.specs.Writes.{Write, faultOf}
-use Rattle.words.specs.Commands.{whole, expand, commands}
+use Rattle.words.specs.Commands.{whole, expand, commands, expansion, wellFormed}
 use Rattle.registers.specs.State.{State, sized}
-use Rattle.reader.specs.ListVerdict.{firstFault, commandFault}
+use Rattle.reader.specs.ListVerdict.{firstFault, commandFault, allAllowed}
 use Rattle.runs.specs.PackedList.{writes, PackableRun, packed}
 use Rattle.packer.specs.Checks.{wrong}
 
@@ -44,6 +44,18 @@ ReadRefused s l n p =
     ((n ≡ 6) × (p ≡ 0) × (sized s ≡ false)) ⊎ ((n ≡ 1) × (p ≡ 0) × (sized s ≡ true) × (65536 < length l))
     ⊎ ((sized s ≡ true) × (length l ≤ 65536) × CommandRefused l n p)
 
+-- three buffers, ids, masks and values, are of one length
+abbrev pub OneLength : List ℕ → List ℕ → List ℕ → Type 0
+OneLength is ms vs = (length is ≡ length ms) × (length is ≡ length vs)
+
+-- THE WRITES OF A LIST: 7, then the list, 1 and its commands, then 22 with the places needed, which the buffers are shorter than
+abbrev pub WritesRefused : List ℕ → List ℕ → List ℕ → List ℕ → ℕ → ℕ → Type 0
+WritesRefused l is ms vs n p =
+    ((n ≡ 7) × (p ≡ 0) × (OneLength is ms vs → ⊥)) ⊎ ((n ≡ 1) × (p ≡ 0) × OneLength is ms vs × (65536 < length l))
+    ⊎ (OneLength is ms vs × (length l ≤ 65536) × CommandRefused l n p)
+    ⊎ ((n ≡ 22) × OneLength is ms vs × (length l ≤ 65536) × (wellFormed l ≡ true) × (allAllowed (expansion l) ≡ true)
+    × (p ≡ length (expansion l)) × (length is < p))
+
 -- A SINGLE WRITE: 6, 9, then its fault; the place is 0
 pub record WriteRefused (s : State) (w : Write) (n p : ℕ) : Type 0 where
   pub place : p ≡ 0
@@ -55,10 +67,6 @@ pub record OneRefused (is ms : List ℕ) (n p : ℕ) : Type 0 where
   pub place : p < length is
   pub first : (k : ℕ) → k < p → wrong (getD is k 0) (getD ms k 0) ≡ 0
   pub why : In n (9 ∷ 3 ∷ 4 ∷ 5 ∷ []) × (wrong (getD is p 0) (getD ms p 0) ≡ n)
-
--- ids, masks and values are of one length
-abbrev pub OneLength : List ℕ → List ℕ → List ℕ → Type 0
-OneLength is ms vs = (length is ≡ length ms) × (length is ≡ length vs)
 
 abbrev pub RunRefused : List ℕ → List ℕ → List ℕ → ℕ → ℕ → Type 0
 RunRefused is ms vs n p =

@@ -5,7 +5,7 @@ use Prim.Native.Nat.{ℕ, zero, suc, _+_, _<_}
 use native.Mathlib.Numerals.{add-one}
 use native.Mathlib.Omega.{arith}
 use lib.ListN.{length, getD, drop}
-use Rattle.words.specs.Writes.{writing, valuesIn}
+use Rattle.words.specs.Writes.{Write, writing, idsIn, masksIn, valuesIn}
 use Rattle.runs.specs.PackedList.{writes}
 
 pub writes-length : (is ms vs : List ℕ) → length is ≡ length ms → length is ≡ length vs → length (writes is ms vs) ≡ length is
@@ -26,6 +26,22 @@ cons (i ∷ is) (m ∷ ms) (v ∷ vs) (suc j) e f h = cons is ms vs j (omega ari
 pub writes-at : (is ms vs : List ℕ) (j : ℕ) → length is ≡ length ms → length is ≡ length vs → j < length is
     → drop j (writes is ms vs) ≡ writing (getD is j 0) (getD ms j 0) (getD vs j 0) ∷ drop (j + 1) (writes is ms vs)
 writes-at is ms vs j e f h = rw add-one (cons is ms vs j e f h)
+
+-- the rows of the writes are the buffers, and the writes of a run's rows are the run
+pub rows-of : (is ms vs : List ℕ) → length is ≡ length ms → length is ≡ length vs
+    → (idsIn (writes is ms vs) ≡ is) × (masksIn (writes is ms vs) ≡ ms) × (valuesIn (writes is ms vs) ≡ vs)
+rows-of [] [] [] e f = (refl, refl, refl)
+rows-of [] [] (v ∷ vs) e f = absurd (omega arith)
+rows-of [] (m ∷ ms) vs e f = absurd (omega arith)
+rows-of (i ∷ is) [] vs e f = absurd (omega arith)
+rows-of (i ∷ is) (m ∷ ms) [] e f = absurd (omega arith)
+rows-of (i ∷ is) (m ∷ ms) (v ∷ vs) e f =
+    let r = rows-of is ms vs (omega arith) (omega arith) in
+    (ap (λ (x : List ℕ). i ∷ x) (r .0), ap (λ (x : List ℕ). m ∷ x) (r .1), ap (λ (x : List ℕ). v ∷ x) (r .2))
+
+pub writes-rows : (ws : List Write) → writes (idsIn ws) (masksIn ws) (valuesIn ws) ≡ ws
+writes-rows [] = refl
+writes-rows (w ∷ ws) = ap (λ (x : List Write). w ∷ x) (writes-rows ws)
 
 -- the values from write j on
 pub values-from : (is ms vs : List ℕ) (j : ℕ) → length is ≡ length ms → length is ≡ length vs
