@@ -48,6 +48,8 @@ impl Refusal {
     pub const CODE_WITHOUT_NAME: u32 = 13;
     /// Not built; the place is the lowest id of a register that asks for it.
     pub const NOT_BUILT: u32 = 14;
+    /// The buffers have fewer places than the list has writes; the place is the places needed.
+    pub const NO_ROOM_FOR_WRITES: u32 = 22;
 
     /// What was wrong, without the place.
     #[must_use]
@@ -66,6 +68,7 @@ impl Refusal {
             Self::DEPTH_ABOVE_LARGEST => "depth above the format's largest",
             Self::CODE_WITHOUT_NAME => "code without a name",
             Self::NOT_BUILT => "not built",
+            Self::NO_ROOM_FOR_WRITES => "fewer places than writes",
             _ => "no number of the table",
         }
     }
@@ -83,6 +86,7 @@ impl fmt::Display for Refusal {
             }
             Self::MASK_ABOVE_15 => write!(f, ", write {place}"),
             Self::NO_ROOM => write!(f, ", {place} words needed"),
+            Self::NO_ROOM_FOR_WRITES => write!(f, ", {place} places needed"),
             Self::DEPTH_ABOVE_LARGEST if place == 0 => f.write_str(", incoming"),
             Self::DEPTH_ABOVE_LARGEST => f.write_str(", stored"),
             Self::CODE_WITHOUT_NAME | Self::NOT_BUILT => write!(f, ", register {place:03X}h"),
