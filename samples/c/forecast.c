@@ -1,5 +1,5 @@
 /*
- * Judges a captured list, shows what it sets, forecasts the length of a packed run, and draws one fragment with the state that
+ * Judges a captured list, shows what it sets, forecasts how short it could be, and draws one fragment with the state that
  * the list leaves.
  *
  *     forecast FILE        FILE holds the list's words, four bytes a word, the lowest byte first
@@ -110,20 +110,22 @@ static int show_fields(const struct state *s) {
 }
 
 /*
- * A run that no packer gets right who takes the longest command first: the second write must open the rising one. The first call
- * lends no space and asks for the length; the second packs into just so many words.
+ * How short the list could be: its writes are packed into the shortest list that says them. The first packing lends no space
+ * and asks for the length, which the refusal's place tells; the second has just so many words. No list has more writes than
+ * words.
  */
-static int show_packing(void) {
-    static const uint32_t ids[] = {0x41, 0x41, 0x42, 0x43}, masks[] = {15, 15, 15, 15}, values[] = {1, 2, 3, 4};
-    uint32_t space[8];
-    uint64_t answer = pica_pack(ids, 4, masks, 4, values, 4, NULL, 0);
-    (void)answered("pack without space", answer);
-    if (pica_number(answer) != PICA_NO_ROOM || pica_value(answer) > 8) return 0;
-    answer = pica_pack(ids, 4, masks, 4, values, 4, space, pica_value(answer));
+static int show_forecast(const uint32_t *list, size_t length) {
+    static uint32_t ids[MOST_LOADED], masks[MOST_LOADED], values[MOST_LOADED], space[2 * PICA_RUN_LENGTH_MOST];
+    uint64_t answer = pica_writes(list, length, ids, length, masks, length, values, length);
+    if (!answered("writes", answer)) return 0;
+    uint32_t writes = pica_value(answer);
+    for (uint32_t k = 0; k < writes && k < 3; k++)
+        printf("write %u: register %03X, mask %X, value %08X\n", (unsigned)k, (unsigned)ids[k], (unsigned)masks[k], (unsigned)values[k]);
+    answer = pica_pack(ids, writes, masks, writes, values, writes, NULL, 0);
+    answer = pica_pack(ids, writes, masks, writes, values, writes, space, pica_number(answer) == PICA_NO_ROOM ? pica_value(answer) : 0);
     if (!answered("pack", answer)) return 0;
-    printf("pack: 4 writes in %u words:", (unsigned)pica_value(answer));
-    for (uint32_t k = 0; k < pica_value(answer); k++) printf(" %08X", (unsigned)space[k]);
-    printf("\n");
+    printf("forecast: %u writes, %u words captured, %u words at the shortest\n", (unsigned)writes, (unsigned)length,
+           (unsigned)pica_value(answer));
     return 1;
 }
 
@@ -148,11 +150,14 @@ static int show_fragment(const struct state *s) {
     return 1;
 }
 
-/* An empty run, as an empty std::vector hands it over: four times null with length 0. Its list is the empty one. */
+/* An empty run, as an empty std::vector hands it over: null with length 0. Its list is the empty one, and has no writes. */
 static int show_empty(struct state *s) {
     uint64_t packed = pica_pack(NULL, 0, NULL, 0, NULL, 0, NULL, 0), read = pica_read(LENT(s), NULL, 0);
+    uint64_t writes = pica_writes(NULL, 0, NULL, 0, NULL, 0, NULL, 0);
     if (!answered("pack an empty run", packed) || !answered("read an empty list", read)) return 0;
-    printf("empty: %u words, %u writes\n", (unsigned)pica_value(packed), (unsigned)pica_value(read));
+    if (!answered("writes of an empty list", writes)) return 0;
+    printf("empty: %u words, %u writes, %u of them read\n", (unsigned)pica_value(packed), (unsigned)pica_value(writes),
+           (unsigned)pica_value(read));
     return 1;
 }
 
@@ -168,5 +173,6 @@ int main(int argc, char **argv) {
         fprintf(stderr, "forecast: %s is no list of words\n", argv[1]);
         return 2;
     }
-    return show_read(&s, list, (size_t)length) && show_fields(&s) && show_packing() && show_empty(&s) && show_fragment(&s) ? 0 : 1;
+    size_t words = (size_t)length;
+    return show_read(&s, list, words) && show_fields(&s) && show_forecast(list, words) && show_empty(&s) && show_fragment(&s) ? 0 : 1;
 }
