@@ -28,6 +28,7 @@ extern crate alloc;
 mod ffi;
 mod flat;
 mod fragment;
+pub mod names;
 mod pack;
 mod refusal;
 mod settings;
