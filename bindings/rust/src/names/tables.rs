@@ -582,7 +582,7 @@ pub static REFUSALS: [RefusalText; 14] = [
         number: 14,
         name: "NOT_BUILT",
         reason: "not built",
-        text: "not built, at the register whose id is the place: E0 fog mode not 0; 100 mode not 0, bit 8, 24 or 25; 117 not size 2, format 0",
+        text: "not built, at the register whose id is the place: E0 fog mode not 0; 100 mode not 0, bit 8, 24 or 25 set; 117 other than 2",
         advice: "the fragment's result isn't told for such a state",
     },
     RefusalText {
