@@ -18,10 +18,40 @@ pub const BYTES_MOST: u64 = 4 * LIST_LENGTH_MOST as u64;
 /// Why there is no list.
 #[derive(Debug, PartialEq, Eq)]
 pub enum Fault {
-    /// Over 65,536 words, whatever they are.
+    /// More bytes than may be.
     TooLong,
-    /// Something can't be read, and why.
-    Unreadable(String),
+    Unreadable(Reason),
+}
+
+/// Why something can't be read, and what to do.
+#[derive(Clone, Debug, PartialEq, Eq)]
+pub struct Reason {
+    pub why: String,
+    pub advice: &'static str,
+}
+
+impl Reason {
+    fn new(why: &str, advice: &'static str) -> Self {
+        Self {
+            why: why.to_owned(),
+            advice,
+        }
+    }
+}
+
+impl From<io::Error> for Reason {
+    fn from(error: io::Error) -> Self {
+        match error.kind() {
+            ErrorKind::NotFound => Self::new("there is no such file", "check its name"),
+            ErrorKind::PermissionDenied => {
+                Self::new("no permission to read it", "ask its owner for it")
+            }
+            _ => Self {
+                why: plain(&error),
+                advice: "read it elsewhere, or copy it and try the copy",
+            },
+        }
+    }
 }
 
 /// Something that is read as a list.
@@ -34,29 +64,74 @@ enum Source {
     File,
     StandardInput,
     /// Nothing is opened, and this is why.
-    Never(String),
+    Never(Reason),
 }
 
 impl Entry {
-    /// Its name, as it is printed. Bytes that are no UTF-8 show as U+FFFD.
+    fn new(path: impl Into<PathBuf>, source: Source) -> Self {
+        Self {
+            path: path.into(),
+            source,
+        }
+    }
+
+    /// Its path, as it is printed. Bytes that are no UTF-8 show as U+FFFD.
     pub fn name(&self) -> String {
-        match self.source {
-            Source::StandardInput => String::from("-"),
-            _ => self.path.to_string_lossy().into_owned(),
-        }
+        self.path.to_string_lossy().into_owned()
     }
 
-    /// Its words.
+    /// Its words, the lowest byte first.
     pub fn words(&self) -> Result<Vec<u32>, Fault> {
-        match &self.source {
-            Source::File => words(&file_bytes(&self.path, BYTES_MOST)?),
-            Source::StandardInput => words(&standard_bytes(BYTES_MOST)?),
-            Source::Never(why) => Err(Fault::Unreadable(why.clone())),
+        let bytes = self.bytes(BYTES_MOST)?;
+        if bytes.len() % 4 != 0 {
+            let why = format!("ends within a word ({} bytes)", bytes.len());
+            let advice = "a list is whole words of four bytes: capture it again";
+            return Err(Fault::Unreadable(Reason { why, advice }));
         }
+        let word = |four: &[u8]| {
+            four.iter()
+                .rev()
+                .fold(0, |word, &byte| word << 8 | u32::from(byte))
+        };
+        Ok(bytes.chunks_exact(4).map(word).collect())
     }
 
-    fn new(path: PathBuf, source: Source) -> Self {
-        Self { path, source }
+    /// Its bytes. Where there are more, nothing is read beyond: a file tells by its length, all else by one byte too many.
+    fn bytes(&self, most: u64) -> Result<Vec<u8>, Fault> {
+        let file = self.open().map_err(Fault::Unreadable)?;
+        let unreadable = |error: io::Error| Fault::Unreadable(error.into());
+        let seen = file.metadata().map_err(unreadable)?;
+        if seen.is_file() && seen.len() > most && !matches!(self.source, Source::StandardInput) {
+            return Err(Fault::TooLong);
+        }
+        let mut bytes = Vec::new();
+        file.take(most + 1)
+            .read_to_end(&mut bytes)
+            .map_err(unreadable)?;
+        if bytes.len() as u64 > most {
+            return Err(Fault::TooLong);
+        }
+        Ok(bytes)
+    }
+
+    /// The file, which may be a pipe or a device where it was named as such.
+    pub fn open(&self) -> Result<File, Reason> {
+        let file = match &self.source {
+            Source::Never(reason) => return Err(reason.clone()),
+            Source::File => File::open(&self.path)?,
+            Source::StandardInput if closed::standard_input() => {
+                return Err(Reason::new(
+                    "standard input is closed",
+                    "name a file, or give one with <",
+                ));
+            }
+            // as a file, because std's own standard input passes over a descriptor that can't be read
+            Source::StandardInput => File::from(io::stdin().as_fd().try_clone_to_owned()?),
+        };
+        if file.metadata()?.is_dir() {
+            return Err(Reason::new("a folder", "name a file in it"));
+        }
+        Ok(file)
     }
 }
 
@@ -67,31 +142,22 @@ pub fn single(path: &OsStr) -> Entry {
     } else {
         Source::File
     };
-    Entry::new(PathBuf::from(path), source)
+    Entry::new(path, source)
 }
 
 /// Everything that the paths name, folders taken apart, in order.
 pub fn entries(paths: &[OsString]) -> Vec<Entry> {
     let mut found = Vec::new();
-    let mut standard_input_met = false;
-    for path in paths {
-        if path == "-" {
-            let again = Source::Never(String::from(
-                "standard input is read once: name - only once",
-            ));
-            let source = if standard_input_met {
-                again
-            } else {
-                Source::StandardInput
-            };
-            found.push(Entry::new(PathBuf::from(path), source));
-            standard_input_met = true;
-        } else if Path::new(path).is_dir() {
+    for (k, path) in paths.iter().enumerate() {
+        if path == "-" && paths[..k].contains(path) {
+            let reason = Reason::new("standard input can be read only once", "name - once");
+            found.push(Entry::new(path, Source::Never(reason)));
+        } else if path != "-" && Path::new(path).is_dir() {
             let before = found.len();
             below(Path::new(path), &mut found);
             if found.len() == before {
                 note(&format!(
-                    "{}: a folder without files, so nothing is read there",
+                    "{}: no file in this folder, so nothing is read there",
                     shown(path)
                 ));
             }
@@ -103,21 +169,25 @@ pub fn entries(paths: &[OsString]) -> Vec<Entry> {
 }
 
 /// Every file below a folder, in the byte order of the path's parts. A link to a folder isn't followed, so that nothing is met twice
-/// and no walk is endless; what is neither file nor folder isn't opened, because to open a pipe may wait for ever.
+/// and no walk is endless; what is neither file nor folder isn't opened, because that may wait for ever.
 fn below(folder: &Path, found: &mut Vec<Entry>) {
     let mut left = vec![folder.to_owned()];
     while let Some(path) = left.pop() {
         match kind(&path, path == folder) {
-            Kind::File => found.push(Entry::new(path, Source::File)),
-            Kind::Folder => match inside(&path) {
+            Ok(Kind::File) => found.push(Entry::new(path, Source::File)),
+            Ok(Kind::Folder) => match inside(&path) {
                 Ok(paths) => left.extend(paths.into_iter().rev()),
-                Err(error) => found.push(Entry::new(path, Source::Never(reason(&error)))),
+                Err(error) => found.push(Entry::new(path, Source::Never(error.into()))),
             },
-            Kind::Link => note(&format!(
+            Ok(Kind::Link) => note(&format!(
                 "{}: a link to a folder, not followed",
                 shown(&path)
             )),
-            Kind::Other(why) => found.push(Entry::new(path, Source::Never(why))),
+            Ok(Kind::Other(what)) => {
+                let reason = Reason::new(what, "name it by itself to read it");
+                found.push(Entry::new(path, Source::Never(reason)));
+            }
+            Err(error) => found.push(Entry::new(path, Source::Never(error.into()))),
         }
     }
 }
@@ -127,109 +197,41 @@ enum Kind {
     Folder,
     /// To a folder.
     Link,
-    Other(String),
+    Other(&'static str),
 }
 
-fn kind(path: &Path, named: bool) -> Kind {
-    let (own, target) = match (fs::symlink_metadata(path), fs::metadata(path)) {
-        (Ok(own), Ok(target)) => (own.file_type(), target.file_type()),
-        (_, Err(error)) | (Err(error), _) => return Kind::Other(reason(&error)),
-    };
-    match target {
-        folder if folder.is_dir() && own.is_symlink() && !named => Kind::Link,
+fn kind(path: &Path, named: bool) -> io::Result<Kind> {
+    let target = fs::metadata(path)?;
+    let linked = fs::symlink_metadata(path)?.is_symlink() && !named;
+    Ok(match target.file_type() {
+        folder if folder.is_dir() && linked => Kind::Link,
         folder if folder.is_dir() => Kind::Folder,
         file if file.is_file() => Kind::File,
-        other => Kind::Other(format!("{} and no file", special(other))),
-    }
+        other => Kind::Other(special(other)),
+    })
 }
 
 fn special(kind: FileType) -> &'static str {
     match kind {
-        kind if kind.is_fifo() => "a pipe",
-        kind if kind.is_socket() => "a socket",
-        _ => "a device",
+        kind if kind.is_fifo() => "a pipe and no file",
+        kind if kind.is_socket() => "a socket and no file",
+        _ => "a device and no file",
     }
 }
 
 fn inside(folder: &Path) -> io::Result<Vec<PathBuf>> {
-    let found: io::Result<Vec<_>> = fs::read_dir(folder)?
-        .map(|entry| Ok(entry?.file_name()))
-        .collect();
-    let mut names = found?;
+    let names = fs::read_dir(folder)?.map(|entry| Ok(entry?.file_name()));
+    let mut names = names.collect::<io::Result<Vec<_>>>()?;
     names.sort();
     Ok(names.into_iter().map(|name| folder.join(name)).collect())
 }
 
-/// The bytes of a file, at most so many. A longer one is refused by its length, or, where it has none that is known, after one byte
-/// more; nothing is read beyond.
-pub fn file_bytes(path: &Path, most: u64) -> Result<Vec<u8>, Fault> {
-    let unreadable = |error| Fault::Unreadable(reason(&error));
-    let file = File::open(path).map_err(unreadable)?;
-    let seen = file.metadata().map_err(unreadable)?;
-    if seen.is_dir() {
-        return Err(Fault::Unreadable(String::from(
-            "a folder: name a file in it",
-        )));
-    }
-    if seen.is_file() && seen.len() > most {
-        return Err(Fault::TooLong);
-    }
-    bytes(file, most)
-}
-
-/// The bytes of standard input, at most so many.
-pub fn standard_bytes(most: u64) -> Result<Vec<u8>, Fault> {
-    if closed::standard_input() {
-        return Err(Fault::Unreadable(String::from(
-            "standard input is closed: name a file, or open it with <",
-        )));
-    }
-    // as a file, because std's own passes over errors
-    match io::stdin().as_fd().try_clone_to_owned() {
-        Ok(descriptor) => bytes(File::from(descriptor), most),
-        Err(error) => Err(Fault::Unreadable(reason(&error))),
-    }
-}
-
-fn bytes(file: File, most: u64) -> Result<Vec<u8>, Fault> {
-    let mut bytes = Vec::new();
-    match file.take(most + 1).read_to_end(&mut bytes) {
-        Ok(_) if bytes.len() as u64 > most => Err(Fault::TooLong),
-        Ok(_) => Ok(bytes),
-        Err(error) => Err(Fault::Unreadable(reason(&error))),
-    }
-}
-
-/// Words, the lowest byte first.
-fn words(bytes: &[u8]) -> Result<Vec<u32>, Fault> {
-    if bytes.len() % 4 != 0 {
-        let what = format!("ends within a word ({} bytes)", bytes.len());
-        return Err(Fault::Unreadable(what));
-    }
-    let word = |four: &[u8]| {
-        four.iter()
-            .rev()
-            .fold(0, |word, &byte| word << 8 | u32::from(byte))
-    };
-    Ok(bytes.chunks_exact(4).map(word).collect())
-}
-
-/// Why the system refused, and what to do.
-fn reason(error: &io::Error) -> String {
-    match error.kind() {
-        ErrorKind::NotFound => String::from("there is no such file: check its name"),
-        ErrorKind::PermissionDenied => {
-            String::from("no permission to read it: ask its owner, or copy it")
-        }
-        _ => plain(error),
-    }
-}
-
-/// A path as text on one line: control characters are escaped, and bytes that are no UTF-8 show as U+FFFD.
+/// A path as text on one line.
 pub fn shown(path: impl AsRef<OsStr>) -> String {
     on_one_line(&path.as_ref().to_string_lossy())
 }
 
+/// Control characters escaped: a name with a line's end in it can't pass for two, nor can one steer a terminal.
 pub fn on_one_line(text: &str) -> String {
     let mut line = String::with_capacity(text.len());
     for letter in text.chars() {

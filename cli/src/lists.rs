@@ -2,7 +2,7 @@
 
 use pica::{Refusal, Write};
 
-use crate::input::{Entry, Fault};
+use crate::input::{Entry, Fault, Reason};
 use crate::refusals;
 use crate::standin::writes_of;
 use crate::status::Status;
@@ -16,7 +16,7 @@ pub struct List {
 /// Why there is none.
 pub enum Problem {
     Refused(Refusal),
-    Unreadable(String),
+    Unreadable(Reason),
 }
 
 /// Reads and judges.
@@ -26,7 +26,7 @@ pub fn load(entry: &Entry) -> Result<List, Problem> {
             number: Refusal::LIST_TOO_LONG,
             place: 0,
         }),
-        Fault::Unreadable(why) => Problem::Unreadable(why),
+        Fault::Unreadable(reason) => Problem::Unreadable(reason),
     })?;
     let writes = writes_of(&words).map_err(Problem::Refused)?;
     Ok(List { words, writes })
@@ -58,7 +58,7 @@ impl Problem {
     /// The whole of it, on one line.
     pub fn text(&self) -> String {
         match self {
-            Self::Unreadable(why) => format!("unreadable: {why}"),
+            Self::Unreadable(reason) => format!("unreadable: {}; {}", reason.why, reason.advice),
             Self::Refused(refusal) => {
                 let number = refusal.number;
                 let (meaning, advice) = (refusals::meaning(number), refusals::advice(number));

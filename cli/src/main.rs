@@ -3,9 +3,11 @@
 #![deny(unsafe_code)]
 
 mod closed;
+mod csv;
 mod forecast;
 mod help;
 mod input;
+mod json;
 mod judge;
 mod lists;
 mod options;
@@ -15,6 +17,7 @@ mod refusals;
 mod show;
 mod standin;
 mod status;
+mod text;
 mod writes;
 
 use std::ffi::OsString;
