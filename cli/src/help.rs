@@ -26,8 +26,8 @@ pub fn overview(out: &mut Output) -> Outcome {
     write!(
         out,
         "
-A list is a file of 32-bit words, the lowest byte first, of at most 65,536 words. `pica SUBCOMMAND --help`
-says more on each; `pica --version` gives the version.
+A list is a file of 32-bit words, the lowest byte first, of at most 65,536 words.
+`pica SUBCOMMAND --help` says more on each; `pica --version` gives the version.
 
 Example
   pica judge captures/          judges every file below the folder captures

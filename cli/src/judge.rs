@@ -17,14 +17,15 @@ pub const SUMMARY: &str = "accepts or refuses lists, and says why";
 pub const HELP: &str = "\
 Usage: pica judge PATH .. [--csv | --json]
 
-PATH is a file, a folder (every file below it, in order of name) or - (standard input). Each list gets a
-line on standard output: `ok` with its register writes and its words; or `refused` with the refusal's
-number, the place of the command at fault (words and bytes from the file's start), what it means and what
-to do; or `unreadable` and why. A list that sets nothing has a remark. Of several lists, how many were
-accepted is said at the end, on standard error.
+PATH is a file, a folder (every file below it, in order of name) or - (standard input). Each list
+gets a line on standard output: `ok` with its register writes and its words; or `refused` with the
+refusal's number, the place of the command at fault (in words and in bytes from the file's start),
+what it means and what to do; or `unreadable` and why. A list that sets nothing gets a remark. Of
+several lists it is said at the end, on standard error, how many were accepted.
 
-  --csv    rows of comma-separated values on standard output, the first with the columns' names: path,
-           verdict (ok, refused or unreadable), writes, words, number, place, byte, meaning, what_to_do
+  --csv    rows of comma-separated values on standard output, the first with the columns' names:
+           path, verdict (ok, refused or unreadable), writes, words, number, place, byte, meaning,
+           what_to_do
   --json   the same as one array of objects
 
 Examples

@@ -4,15 +4,20 @@
 
 mod closed;
 mod csv;
+mod files;
 mod forecast;
 mod help;
 mod input;
 mod json;
 mod judge;
+mod lines;
 mod lists;
 mod options;
 mod output;
 mod pack;
+mod parts;
+mod progress;
+mod rate;
 mod refusals;
 mod show;
 mod standin;
