@@ -4,6 +4,7 @@
 
 mod closed;
 mod csv;
+mod figures;
 mod files;
 mod forecast;
 mod help;
@@ -16,12 +17,15 @@ mod options;
 mod output;
 mod pack;
 mod parts;
+mod plot;
 mod progress;
 mod rate;
 mod refusals;
 mod show;
 mod standin;
 mod status;
+mod svg;
+mod table;
 mod text;
 mod writes;
 
