@@ -21,23 +21,25 @@ pub const SUMMARY: &str =
 pub const HELP: &str = "\
 Usage: pica forecast PATH .. [--rate WORDS_A_SECOND] [--csv FILE] [--plot FILE.svg] [--force]
 
-PATH is a file, a folder (every file below it, in order of name) or - (standard input). For each list
-a line tells its words, its register writes, the words of the shortest list that says the same writes
-in the same order, and what that saves; then come the totals. A list that is refused or unreadable
-gets its line, and is left out of the totals.
+PATH is a file, a folder (every file below it, in order of name) or - (standard input). For each
+list a line tells its words, its register writes, the words of the shortest list that says the same
+writes in the same order, and what that saves; then come the totals. A list that is refused or
+unreadable gets its line too, and is left out of the totals.
 
-No list that says the same is shorter than the one that is told: that is proved. Of over 4,096 writes
-two bounds are told, at least and at most; the columns then have the longest that it can be.
+No list that says the same is shorter than what is told: that is proved. Of over 4,096 writes two
+bounds are told, at least and at most; the columns then have what is sure: the longest that the
+shortest list can be, and the least that it saves.
 
   --rate N      words a second, as 1000000 or 0.5: how long the lists take in hours, minutes and
-                seconds, as captured and at their shortest. Times of a minute and more are rounded to
-                whole seconds, shorter ones to thousandths
+                seconds, as captured and at their shortest. Times of a minute and more are rounded
+                to whole seconds, shorter ones to thousandths
   --csv FILE    the figures as comma-separated values, a row for each list. Columns: path, verdict
                 (ok, refused or unreadable), words, writes, shortest_at_least, shortest_at_most,
-                saved_at_least, saved_at_most (words); captured_seconds, shortest_at_least_seconds,
-                shortest_at_most_seconds (with --rate); meaning, what_to_do (of a refusal)
-  --plot FILE   a picture for a report, as SVG: the words of each list before and after, and totals.
-                Of over 40 lists the largest 40 are drawn
+                saved_at_least, saved_at_most (in words); captured_seconds,
+                shortest_at_least_seconds, shortest_at_most_seconds (with --rate); meaning,
+                what_to_do (of a list that was refused or unreadable)
+  --plot FILE   a picture for a report, as SVG: the words of each list before and after, and the
+                totals. Of over 40 lists the largest 40 are drawn
   --force       overwrites these files if they are there
 
 Example

@@ -23,7 +23,7 @@ const CAPTURED: &str = "#0a4f80";
 const SHORTEST: &str = "#f0a030";
 /// Between the bounds.
 const BETWEEN: &str = "#fbe3bf";
-const GRID: &str = "#d9d9d9";
+const GRID: &str = "#dedede";
 
 const PLAIN: Style = Style {
     size: 11,
@@ -87,28 +87,48 @@ fn chosen(rows: &[Row]) -> (Vec<(String, Figures)>, Totals) {
             .iter()
             .for_each(|(row, _)| others.add(row));
     }
-    (
-        drawn
-            .into_iter()
-            .map(|(row, figures)| (label(&row.name), figures))
-            .collect(),
-        others,
-    )
+    let folder = common_folder(&drawn);
+    let labelled =
+        |(row, figures): (&Row, Figures)| (label(&row.name[folder..], figures.remark), figures);
+    (drawn.into_iter().map(labelled).collect(), others)
 }
 
-/// A name that fits beside its bars. Letters beyond the Latin ones may be twice as wide.
-fn label(name: &str) -> String {
-    let name = on_one_line(name);
-    let width = |text: &str| {
-        text.chars()
-            .map(|letter| if letter < '\u{300}' { 1 } else { 2 })
-            .sum::<usize>()
+/// How much of the start of every name is the same folder: that tells nothing beside the bars.
+fn common_folder(drawn: &[(&Row, Figures)]) -> usize {
+    let Some(((first, _), rest)) = drawn.split_first() else {
+        return 0;
     };
+    let same = |name: &str| {
+        name.bytes()
+            .zip(first.name.bytes())
+            .take_while(|(a, b)| a == b)
+            .count()
+    };
+    let most = rest
+        .iter()
+        .map(|(row, _)| same(&row.name))
+        .min()
+        .unwrap_or(first.name.len());
+    let start = &first.name.as_bytes()[..most];
+    start
+        .iter()
+        .rposition(|&byte| byte == b'/')
+        .map_or(0, |slash| slash + 1)
+}
+
+/// A name that fits beside its bars, with what is remarkable. Letters beyond the Latin ones may be twice as wide.
+fn label(name: &str, remark: Option<&str>) -> String {
+    let name = on_one_line(name);
+    let remark = remark.and_then(|remark| remark.split(':').next());
+    let end = remark.map_or_else(String::new, |remark| format!(" ({remark})"));
+    let wide = |letter| if letter < '\u{300}' { 1 } else { 2 };
+    let width = |text: &str| text.chars().map(wide).sum::<usize>();
+    let fits = |text: &String| width(text) + width(&end) <= NAME_MOST;
     let fitting = (1..=NAME_MOST)
         .rev()
         .map(|most| shortened(&name, most))
-        .find(|text| width(text) <= NAME_MOST);
-    fitting.unwrap_or_default()
+        .find(fits);
+    fitting.unwrap_or_default() + &end
 }
 
 fn heading(picture: &mut Picture, totals: &Totals, drawn: &[(String, Figures)]) {
@@ -174,11 +194,11 @@ fn bars(picture: &mut Picture, y: f64, figures: &Figures, end: u64) {
     if figures.is_bounded() {
         picture.rectangle((BARS.0, y + BAR), (long(shortest.least), BAR), SHORTEST);
     }
-    let saved = percent(figures.saved().least, words);
-    let value = format!(
-        "{} (\u{2212}{saved} %)",
-        between(shortest.least, shortest.most)
-    );
+    let mut value = between(shortest.least, shortest.most);
+    let saved = figures.saved().least;
+    if saved > 0 {
+        value += &format!(" (\u{2212}{} %)", percent(saved, words));
+    }
     picture.text(
         (BARS.0 + long(shortest.most) + 5.0, y + 2.0 * BAR - 1.0),
         VALUE,
@@ -217,7 +237,7 @@ impl Axis {
     }
 }
 
-/// The totals, in a scale of their own; gives the picture's height.
+/// What isn't drawn, and the totals, in a scale of their own; gives the picture's height.
 fn foot(
     picture: &mut Picture,
     top: f64,
@@ -227,31 +247,27 @@ fn foot(
 ) -> f64 {
     let mut y = top;
     if others.lists > 0 {
-        let sum = &others.sum;
-        let (words, shortest) = (
-            grouped(sum.words),
-            between(sum.shortest.least, sum.shortest.most),
-        );
-        let text = format!(
-            "{} others, not drawn: {words} words captured, {shortest} at the shortest",
-            grouped(others.lists)
-        );
-        picture.text((20.0, y), PLAIN, &text);
+        picture.text((20.0, y), PLAIN, &not_drawn(others));
         y += 22.0;
     }
     if totals.lists > 1 {
         picture.line((20.0, y - 8.0), (WIDTH - 20.0, y - 8.0), GRID);
         let name = format!("total of {} lists", grouped(totals.lists));
         picture.text(
-            (BARS.0 - 8.0, y + BAR + 6.0),
+            (BARS.0 - 8.0, y + BAR + 1.0),
             Style {
                 is_bold: true,
                 ..NAME
             },
             &name,
         );
+        picture.text(
+            (BARS.0 - 8.0, y + BAR + 13.0),
+            Style { size: 9, ..NAME },
+            "in a scale of its own",
+        );
         bars(picture, y + 3.0, &totals.sum, totals.sum.words.max(1));
-        y += 44.0;
+        y += 48.0;
     }
     if let Some(rate) = rate {
         let Figures {
@@ -276,6 +292,13 @@ fn foot(
     y
 }
 
+fn not_drawn(others: &Totals) -> String {
+    let sum = &others.sum;
+    let (count, words) = (grouped(others.lists), grouped(sum.words));
+    let shortest = between(sum.shortest.least, sum.shortest.most);
+    format!("The {BARS_MOST} largest are drawn; the {count} others: {words} words captured, {shortest} at the shortest")
+}
+
 #[cfg(test)]
 mod tests {
     use super::*;
@@ -292,8 +315,34 @@ mod tests {
 
     #[test]
     fn names_fit() {
-        assert_eq!(label("captures/a.bin"), "captures/a.bin");
-        assert_eq!(label(&"x".repeat(99)).len(), NAME_MOST);
-        assert_eq!(label(&"画".repeat(99)).chars().count(), 18);
+        assert_eq!(label("a.bin", None), "a.bin");
+        assert_eq!(
+            label("a.bin", Some("sets nothing: every word is 0")),
+            "a.bin (sets nothing)"
+        );
+        assert_eq!(label(&"x".repeat(99), Some("empty")).len(), NAME_MOST);
+        assert_eq!(label(&"\u{753b}".repeat(99), None).chars().count(), 18);
+    }
+
+    #[test]
+    fn the_common_folder_is_left_out() {
+        let folder = |names: &[&str]| {
+            let row = |name: &&str| Row {
+                name: (*name).to_owned(),
+                found: Ok(Figures::default()),
+            };
+            let rows: Vec<Row> = names.iter().map(row).collect();
+            common_folder(
+                &rows
+                    .iter()
+                    .map(|row| (row, Figures::default()))
+                    .collect::<Vec<_>>(),
+            )
+        };
+        assert_eq!(folder(&[]), 0);
+        assert_eq!(folder(&["a/b/c"]), 4);
+        assert_eq!(folder(&["a/b/c", "a/bd"]), 2);
+        assert_eq!(folder(&["a/\u{e9}", "a/\u{e8}"]), 2);
+        assert_eq!(folder(&["a", "b/a"]), 0);
     }
 }
