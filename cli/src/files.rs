@@ -23,6 +23,11 @@ impl Target {
     /// Refuses what can't be written, while nothing is lost by it.
     pub fn new(path: &OsStr, force: bool) -> Result<Self, Failure> {
         let name = shown(path);
+        if path == "-" || path.is_empty() {
+            return Err(Failure::Usage(format!(
+                "`{name}` is no file's name: give one to write to"
+            )));
+        }
         let path = fs::canonicalize(path).unwrap_or_else(|_| PathBuf::from(path));
         let mut target = Self {
             path,

@@ -4,6 +4,7 @@
 
 mod closed;
 mod csv;
+mod figures;
 mod files;
 mod forecast;
 mod help;
@@ -16,12 +17,15 @@ mod options;
 mod output;
 mod pack;
 mod parts;
+mod plot;
 mod progress;
 mod rate;
 mod refusals;
 mod show;
 mod standin;
 mod status;
+mod svg;
+mod table;
 mod text;
 mod writes;
 
@@ -29,7 +33,7 @@ use std::ffi::OsString;
 use std::process::ExitCode;
 
 use output::Output;
-use status::{Failure, Outcome, Status};
+use status::{Failure, Outcome};
 
 /// A subcommand.
 pub struct Command {
@@ -119,10 +123,10 @@ fn unknown(name: &str) -> Failure {
     Failure::Usage(format!("there is no subcommand {name}: {hint}"))
 }
 
-/// A list's verdict is worst where something can't be read.
 #[cfg(test)]
 mod tests {
     use super::*;
+    use crate::status::Status;
 
     #[test]
     fn subcommands_have_names_of_their_own_and_whole_help() {

@@ -1,6 +1,9 @@
 //! A rate in words a second, and how long so many words take at it. All in whole numbers, so that the digits printed are exact.
 
 use std::ffi::OsStr;
+use std::fmt;
+
+use crate::text::grouped;
 
 /// Words a second: `number` over ten to the power of `decimals`.
 #[derive(Clone, Copy, Debug, PartialEq, Eq)]
@@ -56,7 +59,7 @@ impl Rate {
         let (hours, minutes) = (seconds / 3600, seconds / 60 % 60);
         format!(
             "{} h {minutes:02} min {:02} s",
-            crate::text::grouped(hours),
+            grouped(hours),
             seconds % 60
         )
     }
@@ -65,6 +68,18 @@ impl Rate {
     pub fn seconds(self, words: u64) -> String {
         let millionths = self.time(words, 6);
         format!("{}.{:06}", millionths / 1_000_000, millionths % 1_000_000)
+    }
+}
+
+/// As it was given, digits in groups.
+impl fmt::Display for Rate {
+    fn fmt(&self, f: &mut fmt::Formatter<'_>) -> fmt::Result {
+        let unit = 10u128.pow(self.decimals);
+        f.write_str(&grouped(self.number / unit))?;
+        match self.decimals as usize {
+            0 => Ok(()),
+            width => write!(f, ".{:0width$}", self.number % unit),
+        }
     }
 }
 
@@ -110,6 +125,10 @@ mod tests {
             }
         );
         assert_eq!(rate("5."), rate("5"));
+        assert_eq!(
+            ["1000000", "0.05", "1234.50"].map(|text| rate(text).to_string()),
+            ["1,000,000", "0.05", "1,234.50"]
+        );
     }
 
     #[test]
