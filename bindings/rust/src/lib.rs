@@ -29,6 +29,7 @@ extern crate alloc;
 mod ffi;
 mod flat;
 mod fragment;
+pub mod names;
 mod pack;
 mod refusal;
 mod settings;
