@@ -10,9 +10,7 @@
 #include <string.h>
 
 #include "pica.h"
-
-/* A field that is added to the header's list, or lost from it, would shift every name behind it. */
-typedef char names_every_field[PICA_FIELD_COUNT == PICA_FIELDS_LENGTH ? 1 : -1];
+#include "pica_names.h"
 
 struct state {
     uint32_t cells[PICA_CELLS_LENGTH];
@@ -26,30 +24,15 @@ struct state {
 /* One word more than the limit, so that a list that is too long is refused as such and not cut. */
 #define MOST_LOADED (PICA_LIST_LENGTH_MOST + 1)
 
-static const char *name_of(uint32_t number) {
-    switch (number) {
-    case PICA_LIST_TOO_LONG: return "list too long";
-    case PICA_WORDS_MISSING: return "words missing";
-    case PICA_ID_ABOVE_2FF: return "id above 2FF";
-    case PICA_JUMP_REGISTER: return "jump register";
-    case PICA_PORT_MASK: return "port mask";
-    case PICA_BUFFER_LENGTH: return "buffer length";
-    case PICA_LENGTHS_DIFFER: return "lengths differ";
-    case PICA_TOO_MANY_WRITES: return "too many writes";
-    case PICA_MASK_ABOVE_15: return "mask above 15";
-    case PICA_NO_ROOM: return "no room";
-    case PICA_DEPTH_ABOVE_LARGEST: return "depth above largest";
-    case PICA_CODE_WITHOUT_NAME: return "code without name";
-    case PICA_NOT_BUILT: return "not built";
-    default: return "unknown";
-    }
-}
+/* A later library may refuse by a number that this header has no name for. */
+static const char *named(const char *name) { return name ? name : "(no name)"; }
 
 /* 1 where the call was answered; else says why not. */
 static int answered(const char *what, uint64_t answer) {
     if (pica_number(answer) == 0) return 1;
     uint32_t number = pica_number(answer);
-    printf("%s: refused, %s (%u) at %u\n", what, name_of(number), (unsigned)number, (unsigned)pica_value(answer));
+    printf("%s: refused with %u at %u: %s\n", what, (unsigned)number, (unsigned)pica_value(answer), named(pica_refusal_text(number)));
+    printf("  what to do: %s\n", named(pica_refusal_advice(number)));
     return 0;
 }
 
@@ -78,32 +61,24 @@ static int show_read(struct state *s, const uint32_t *list, size_t length) {
     return 1;
 }
 
+/* A field's number, and its name where it is a code with one. */
 static int show_fields(const struct state *s) {
-    static const struct {
-        const char *name;
-        enum pica_field field;
-    } shown[] = {
-        {"culling", PICA_FIELD_CULLING},
-        {"viewport width", PICA_FIELD_VIEWPORT_WIDTH},
-        {"viewport xy x", PICA_FIELD_VIEWPORT_XY_X},
-        {"depth map enable", PICA_FIELD_DEPTHMAP_ENABLE},
-        {"stage 0 source rgb0", PICA_FIELD_STAGE0_SOURCE_RGB0},
-        {"stage 0 combiner rgb", PICA_FIELD_STAGE0_COMBINER_RGB},
-        {"stage 5 source rgb0", PICA_FIELD_STAGE5_SOURCE_RGB0},
-        {"fog colour red", PICA_FIELD_FOG_COLOUR_RED},
-        {"fog index", PICA_FIELD_FOG_INDEX},
-        {"buffer colour alpha", PICA_FIELD_BUFFER_COLOUR_ALPHA},
-        {"logic operation", PICA_FIELD_BLENDING_LOGIC_OP},
-        {"alpha test function", PICA_FIELD_TESTS_ALPHA_FUNCTION},
-        {"alpha test reference", PICA_FIELD_TESTS_ALPHA_REFERENCE},
-        {"depth test function", PICA_FIELD_TESTS_DEPTH_FUNCTION},
-        {"depth format", PICA_FIELD_BUFFERS_DEPTH_FORMAT},
-        {"light port index", PICA_FIELD_LIGHT_PORT_INDEX},
+    static const enum pica_field shown[] = {
+        PICA_FIELD_CULLING,               PICA_FIELD_VIEWPORT_WIDTH,       PICA_FIELD_VIEWPORT_XY_X,
+        PICA_FIELD_DEPTHMAP_ENABLE,       PICA_FIELD_STAGE0_SOURCE_RGB0,   PICA_FIELD_STAGE0_COMBINER_RGB,
+        PICA_FIELD_STAGE5_SOURCE_RGB0,    PICA_FIELD_FOG_COLOUR_RED,       PICA_FIELD_FOG_INDEX,
+        PICA_FIELD_BUFFER_COLOUR_ALPHA,   PICA_FIELD_BLENDING_LOGIC_OP,    PICA_FIELD_TESTS_ALPHA_FUNCTION,
+        PICA_FIELD_TESTS_ALPHA_REFERENCE, PICA_FIELD_TESTS_DEPTH_FUNCTION, PICA_FIELD_BUFFERS_DEPTH_FORMAT,
+        PICA_FIELD_LIGHT_PORT_INDEX,
     };
     uint32_t fields[PICA_FIELDS_LENGTH];
     if (!answered("decode", pica_decode(LENT(s), fields))) return 0;
-    /* The signed fields come in two's complement, and no unsigned one that is shown is too large for an int. */
-    for (size_t k = 0; k < sizeof shown / sizeof *shown; k++) printf("  %s %d\n", shown[k].name, (int)(int32_t)fields[shown[k].field]);
+    for (size_t k = 0; k < sizeof shown / sizeof *shown; k++) {
+        uint32_t value = fields[shown[k]];
+        const char *code = pica_code_name(shown[k], value);
+        /* The signed fields come in two's complement, and no unsigned one that is shown is too large for an int. */
+        printf("  %s %d%s%s\n", named(pica_field_name(shown[k])), (int)(int32_t)value, code ? ", " : "", code ? code : "");
+    }
     printf("  fog entry 127 %u\n", (unsigned)s->fog[127]);
     printf("  light table 0, entry 128 %u\n", (unsigned)s->light[128]);
     return 1;
@@ -120,7 +95,8 @@ static int show_forecast(const uint32_t *list, size_t length) {
     if (!answered("writes", answer)) return 0;
     uint32_t writes = pica_value(answer);
     for (uint32_t k = 0; k < writes && k < 3; k++)
-        printf("write %u: register %03X, mask %X, value %08X\n", (unsigned)k, (unsigned)ids[k], (unsigned)masks[k], (unsigned)values[k]);
+        printf("write %u: %s (%03X), mask %X, value %08X\n", (unsigned)k, named(pica_register_name(ids[k])), (unsigned)ids[k],
+               (unsigned)masks[k], (unsigned)values[k]);
     answer = pica_pack(ids, writes, masks, writes, values, writes, NULL, 0);
     answer = pica_pack(ids, writes, masks, writes, values, writes, space, pica_number(answer) == PICA_NO_ROOM ? pica_value(answer) : 0);
     if (!answered("pack", answer)) return 0;

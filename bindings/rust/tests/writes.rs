@@ -85,6 +85,8 @@ fn refusals_of_the_buffers() {
     for short in 0..3 {
         assert_refused(&list, [short; 3], 22, 3);
     }
+    let text = "refusal 22: fewer places than writes, 3 places needed";
+    assert_eq!(put(&list, [0; 3]).0.unwrap_err().to_string(), text);
 }
 
 #[test]
