@@ -16,9 +16,10 @@ static inline struct command command_of(uint32_t header) {
 
 static inline int meets(uint32_t first, uint32_t last, uint32_t from, uint32_t to) { return (first <= to) & (last >= from); }
 
-/* Whether a write with this mask to an id of first..last can be at fault; no branch, since which test decides changes from command to command. */
+/* Whether a write with this mask to an id of first..last can be at fault; no branch, since which test decides changes all the time. */
 static inline int can_fail(uint32_t first, uint32_t last, uint32_t mask) {
-    return (last > 0x2FF) | meets(first, last, 0x23C, 0x23D) | ((mask != 15) & (meets(first, last, 0xE8, 0xEF) | meets(first, last, 0x1C8, 0x1CF)));
+    int port = meets(first, last, 0xE8, 0xEF) | meets(first, last, 0x1C8, 0x1CF);
+    return (last > 0x2FF) | meets(first, last, 0x23C, 0x23D) | ((mask != 15) & port);
 }
 
 /* The first fault of a command that has one. */

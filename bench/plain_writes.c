@@ -6,7 +6,8 @@ struct places {
     uint32_t *restrict ids, *restrict masks, *restrict values;
 };
 
-static inline void put_some(struct places p, size_t to, uint32_t id, uint32_t step, uint32_t mask, const uint32_t *restrict from, size_t count) {
+static inline void put_some(struct places p, size_t to, uint32_t id, uint32_t step, uint32_t mask, const uint32_t *restrict from,
+                            size_t count) {
     uint32_t *restrict ids = p.ids + to, *restrict masks = p.masks + to, *restrict values = p.values + to;
     for (size_t k = 0; k < count; k++) {
         ids[k] = id + step * (uint32_t)k;

@@ -95,7 +95,8 @@ static void one_round(const struct workload *w, const struct library *l, struct 
         for (size_t k = 0; k < n * w->times; k++) s->answers[k % CALLS] = l->write(LENT(&s->state), writes.ids[k], writes.masks[k], writes.values[k]);
         break;
     case WRITES:
-        for (size_t k = 0; k < w->times; k++) s->answers[k % CALLS] = l->writes(&list.words[k * n], n, s->ids, n, s->masks, n, s->values, n);
+        for (size_t k = 0; k < w->times; k++)
+            s->answers[k % CALLS] = l->writes(&list.words[k * n], n, s->ids, n, s->masks, n, s->values, n);
         break;
     case PACK:
         for (size_t k = 0; k < w->times; k++)
