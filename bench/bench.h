@@ -79,7 +79,7 @@ enum call { READ, WRITE, WRITES, PACK, DECODE, FRAGMENT };
 struct workload {
     const char *what;
     enum call call;
-    size_t each, times;                  /* the words of a list, the writes of a run, or the calls for which a state stays; and how often in a round */
+    size_t each, times; /* the words of a list, the writes of a run, or the calls for which a state stays; and how often in a round */
     void (*list)(struct list *, size_t); /* of a reading or of a list's writes */
     void (*run)(struct run *, size_t);   /* of a packing or of single writes */
     void (*drawn)(uint32_t *);           /* of a decoding or a fragment: makes the cells of a state */

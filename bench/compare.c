@@ -175,7 +175,8 @@ static int compare_packs(void) {
     memcpy(spaces[1], spaces[0], sizeof spaces[0]);
     for (unsigned k = 0; k < PACKS; k++) {
         random_run(&run);
-        size_t n[3] = {run.length, run.length, run.length}, room = below(4) ? 2 * run.length + below(8) : below(2 * (uint32_t)run.length + 1);
+        size_t n[3] = {run.length, run.length, run.length};
+        size_t room = below(4) ? 2 * run.length + below(8) : below(2 * (uint32_t)run.length + 1);
         if (below(64) == 0 && run.length > 0) n[below(3)]--;
         uint64_t x = ours.pack(run.ids, n[0], run.masks, n[1], run.values, n[2], spaces[0], room);
         uint64_t y = plain.pack(run.ids, n[0], run.masks, n[1], run.values, n[2], spaces[1], room);
@@ -186,7 +187,8 @@ static int compare_packs(void) {
 
 /* Any register with codes. */
 static uint32_t coded_id(void) {
-    static const uint16_t bases[] = {0xC0, 0xC8, 0xD0, 0xD8, 0xF0, 0xF8}, parts[] = {0, 1, 2, 4}, others[] = {0xE0, 0x100, 0x101, 0x116, 0x117};
+    static const uint16_t bases[] = {0xC0, 0xC8, 0xD0, 0xD8, 0xF0, 0xF8}, parts[] = {0, 1, 2, 4};
+    static const uint16_t others[] = {0xE0, 0x100, 0x101, 0x116, 0x117};
     return below(2) ? bases[below(6)] + parts[below(4)] : others[below(5)];
 }
 
@@ -201,7 +203,7 @@ static void idle_stages(uint32_t *cells) {
     }
 }
 
-/* Mostly a state that can be drawn with, often with idle stages; else up to three registers or one depth are random, or a single bit of them. */
+/* Mostly a state that can be drawn with, often with idle stages; else some registers or one depth are random, or a single bit of them. */
 static void random_state(struct state *s, uint32_t given[PICA_GIVEN_LENGTH]) {
     valid_cells(s->cells);
     if (below(2)) s->cells[0x107] |= 0x1F00; /* without it few fragments write a whole colour */

@@ -18,7 +18,7 @@ static const uint32_t held[PICA_CELLS_LENGTH] = {
     [0x1C5] = 0x1FFF,
 };
 
-/* APPLYING: what was judged is applied without another look. The buffers are lent apart, so that the loops may go by several words at once. */
+/* APPLYING: what was judged is applied without another look. The buffers are lent apart, so that loops may go by several words at once. */
 
 static inline uint32_t low_24(uint32_t entry, uint32_t value) { return (entry & 0xFF000000) | (value & 0xFFFFFF); }
 
@@ -68,8 +68,8 @@ static inline int is_light(uint32_t id) { return id - 0x1C8 < 8; }
 
 static inline int is_port(uint32_t id) { return is_fog(id) | is_light(id); }
 
-static inline void put_port(uint32_t *restrict cells, uint32_t *restrict fog, uint32_t *restrict light, uint32_t id, const uint32_t *restrict values,
-                            uint32_t count) {
+static inline void put_port(uint32_t *restrict cells, uint32_t *restrict fog, uint32_t *restrict light, uint32_t id,
+                            const uint32_t *restrict values, uint32_t count) {
     if (is_fog(id))
         upload_fog(cells, fog, values, count);
     else
@@ -80,7 +80,8 @@ static inline void put_port(uint32_t *restrict cells, uint32_t *restrict fog, ui
 static inline void put_rising(uint32_t *restrict cells, uint32_t *restrict fog, uint32_t *restrict light, uint32_t id, uint32_t bytes,
                               const uint32_t *restrict values, uint32_t count) {
     while (count > 0) {
-        uint32_t next = id < 0xE8 ? 0xE8 : id < 0xF0 ? 0xF0 : id < 0x1C8 ? 0x1C8 : id < 0x1D0 ? 0x1D0 : 0x300, part = least(count, next - id);
+        uint32_t next = id < 0xE8 ? 0xE8 : id < 0xF0 ? 0xF0 : id < 0x1C8 ? 0x1C8 : id < 0x1D0 ? 0x1D0 : 0x300;
+        uint32_t part = least(count, next - id);
         if (is_port(id))
             put_port(cells, fog, light, id, values, part);
         else
@@ -92,7 +93,8 @@ static inline void put_rising(uint32_t *restrict cells, uint32_t *restrict fog, 
 }
 
 /* A command's first value stands before its header, the others after it. Of several writes to one register the last decides. */
-static void apply(uint32_t *restrict cells, uint32_t *restrict fog, uint32_t *restrict light, const uint32_t *restrict at, const uint32_t *end) {
+static void apply(uint32_t *restrict cells, uint32_t *restrict fog, uint32_t *restrict light, const uint32_t *restrict at,
+                  const uint32_t *end) {
     while (at < end) {
         struct command c = command_of(at[1]);
         uint32_t bytes = spread(c.mask);
@@ -121,8 +123,8 @@ uint64_t plain_read(uint32_t *cells, size_t cells_length, uint32_t *fog, size_t 
     return answer;
 }
 
-uint64_t plain_write(uint32_t *cells, size_t cells_length, uint32_t *fog, size_t fog_length, uint32_t *light, size_t light_length, uint32_t id,
-                     uint32_t mask, uint32_t value) {
+uint64_t plain_write(uint32_t *cells, size_t cells_length, uint32_t *fog, size_t fog_length, uint32_t *light, size_t light_length,
+                     uint32_t id, uint32_t mask, uint32_t value) {
     if (!plain_is_sized(cells_length, fog_length, light_length)) return plain_refused(PICA_BUFFER_LENGTH, 0);
     if (mask > 15) return plain_refused(PICA_MASK_ABOVE_15, 0);
     uint32_t number = plain_fault(id, mask);

@@ -59,7 +59,7 @@ void long_mixed(struct list *list, size_t words) {
     pad(list, words);
 }
 
-/* One object of a captured frame: its shader's constants, its attributes, now and then a table, its stages, its tests, and the call that draws it. */
+/* One object of a captured frame: its shader's constants, its attributes, now and then a table, its stages and tests, and its drawing. */
 static void object(struct list *list) {
     command(list, 0x2C0, 15, 1, 0);
     command(list, 0x2C1, 15, 4 * (1 + below(16)), 0);

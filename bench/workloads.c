@@ -92,7 +92,8 @@ static void one_round(const struct workload *w, const struct library *l, struct 
         for (size_t k = 0; k < w->times; k++) s->answers[k % CALLS] = l->read(LENT(&s->state), &list.words[k * n], n);
         break;
     case WRITE:
-        for (size_t k = 0; k < n * w->times; k++) s->answers[k % CALLS] = l->write(LENT(&s->state), writes.ids[k], writes.masks[k], writes.values[k]);
+        for (size_t k = 0; k < n * w->times; k++)
+            s->answers[k % CALLS] = l->write(LENT(&s->state), writes.ids[k], writes.masks[k], writes.values[k]);
         break;
     case WRITES:
         for (size_t k = 0; k < w->times; k++)
@@ -100,7 +101,8 @@ static void one_round(const struct workload *w, const struct library *l, struct 
         break;
     case PACK:
         for (size_t k = 0; k < w->times; k++)
-            s->answers[k % CALLS] = l->pack(&writes.ids[k * n], n, &writes.masks[k * n], n, &writes.values[k * n], n, s->space, 2 * PICA_RUN_LENGTH_MOST);
+            s->answers[k % CALLS] =
+                l->pack(&writes.ids[k * n], n, &writes.masks[k * n], n, &writes.values[k * n], n, s->space, 2 * PICA_RUN_LENGTH_MOST);
         break;
     case DECODE:
         for (size_t k = 0; k < CALLS; k++)
@@ -108,7 +110,8 @@ static void one_round(const struct workload *w, const struct library *l, struct 
         break;
     case FRAGMENT:
         for (size_t k = 0; k < CALLS; k++)
-            s->answers[k] = l->fragment(cells[state_of[k]], PICA_CELLS_LENGTH, fog, PICA_FOG_LENGTH, light, PICA_LIGHT_LENGTH, given[k], s->stored[k]);
+            s->answers[k] =
+                l->fragment(cells[state_of[k]], PICA_CELLS_LENGTH, fog, PICA_FOG_LENGTH, light, PICA_LIGHT_LENGTH, given[k], s->stored[k]);
         break;
     }
 }
