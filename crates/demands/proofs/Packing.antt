@@ -8,7 +8,9 @@ use native.Mathlib.Decide.{decLt}
 use native.Mathlib.Omega.{arith}
 use lib.ListN.{length, drop}
 use Rattle.numbers.specs.Answer.{Answer, answered, refused}
+use Rattle.numbers.specs.Room.{andThen, ifRoom, spaceAfter}
 use Rattle.numbers.proofs.Answers.{told-apart, number-one}
+use Rattle.numbers.proofs.Room.{room-enough, room-short, room-answered, room-refused}
 use Rattle.words.specs.Writes.{Write}
 use Rattle.words.specs.Commands.{expansion}
 use Rattle.registers.specs.State.{State, sized}
@@ -20,9 +22,9 @@ use Rattle.runs.specs.Shortest.{Shortest}
 use Rattle.runs.proofs.Writes.{writes-length}
 use Rattle.runs.proofs.Shortest.{says-of, packed-shortest}
 use Rattle.packer.specs.Checks.{checkAnswer}
-use Rattle.packer.specs.Packing.{ifRoom, andThen, packAnswer, spaceAfter, packSpace}
+use Rattle.packer.specs.Packing.{packAnswer, packSpace}
 use Rattle.packer.proofs.Checks.{check-given, given-check}
-use Rattle.packer.proofs.Packs.{pack-room, room-enough, room-short}
+use Rattle.packer.proofs.Packs.{pack-room}
 use Rattle.demands.specs.Said.{Said}
 use Rattle.demands.specs.Refusals.{OneLength}
 use Rattle.demands.proofs.Reading.{read-tested, accepted, leaves}
@@ -44,9 +46,9 @@ module _ (is ms vs : List ℕ) where
 
   -- either the writes can be packed, or the refusal is one of the writes
   abbrev ByRoom : ℕ → Answer → Type 0
-  ByRoom room a = PackableRun is ms vs × (ifRoom list room ≡ a)
+  ByRoom room a = PackableRun is ms vs × (ifRoom 10 (length list) room ≡ a)
 
-  from-check : (room : ℕ) (a b : Answer) → checkAnswer is ms vs ≡ b → andThen b (ifRoom list room) ≡ a
+  from-check : (room : ℕ) (a b : Answer) → checkAnswer is ms vs ≡ b → andThen b (ifRoom 10 (length list) room) ≡ a
       → ByRoom room a ⊎ ((n : ℕ) × (p : ℕ) × (a ≡ refused n p) × (n < 10))
   from-check room a (answered m) c e = inl (check-given is ms vs m c, e)
   from-check room a (refused m p) c e = inr (m, p, sym e, run-below is ms vs m p (check-row is ms vs m p c))
@@ -56,25 +58,16 @@ module _ (is ms vs : List ℕ) where
   unfolding packAnswer
   cases room a e = from-check room a (checkAnswer is ms vs) refl e
 
-  enough : (room n : ℕ) → ifRoom list room ≡ answered n → Dec (room < length list) → (n ≡ length list) × (n ≤ room)
-  enough room n e (yes h) = absurd (told-apart (sym (room-short list room _ refl h ∙ e)))
-  enough room n e (no h) =
-      let r = room-enough list room _ refl (omega arith) in let z : n ≡ length list = cc in (z, omega arith)
-
-  lacking : (room n : ℕ) → ifRoom list room ≡ refused 10 n → Dec (room < length list) → (n ≡ length list) × (room < n)
-  lacking room n e (yes h) = let r = room-short list room _ refl h in let z : n ≡ length list = cc in (z, omega arith)
-  lacking room n e (no h) = absurd (told-apart (room-enough list room _ refl (omega arith) ∙ e))
-
   -- an answer is the length of the packed list, for which there is room, of a run that can be packed
   pub answered-then : (room n : ℕ) → packAnswer is ms vs room ≡ answered n → PackableRun is ms vs × (n ≡ length list) × (n ≤ room)
   answered-then room n e =
-      ⊎-elim (λ g. let r = enough room n (g .1) (decLt room (length list)) in (g .0, r .0, r .1))
+      ⊎-elim (λ g. let r = room-answered 10 (length list) room n (g .1) in (g .0, r .0, r .1))
       (λ x. absurd (told-apart (x .2))) (cases room (answered n) e)
 
   -- "no room" is said for its length, for which there is none
   pub no-room-then : (room n : ℕ) → packAnswer is ms vs room ≡ refused 10 n → PackableRun is ms vs × (n ≡ length list) × (room < n)
   no-room-then room n e =
-      ⊎-elim (λ g. let r = lacking room n (g .1) (decLt room (length list)) in (g .0, r .0, r .1))
+      ⊎-elim (λ g. let r = room-refused 10 (length list) room 10 n (g .1) in (g .0, r .1, r .2))
       (λ x. absurd (omega (arith, x .3, number-one (x .2)))) (cases room (refused 10 n) e)
 
 -- a run that is packed, or for which there is no room, is one that some accepted list says
@@ -120,9 +113,9 @@ module _ (is ms vs : List ℕ) (level : OneLength is ms vs) (few : length is ≤
       → (packAnswer is ms vs (length old) ≡ answered (length (packed ws)))
       × (packSpace is ms vs old ≡ packed ws ++ drop (length (packed ws)) old)
   room old h =
-      let r = pack-room is ms vs old 0 _ _ (given-check is ms vs given) (room-enough (packed ws) (length old) _ refl h) refl in
+      let r = pack-room is ms vs old 0 _ _ (given-check is ms vs given) (room-enough 10 (length (packed ws)) (length old) _ refl h) refl in
       (sym (r .0), sym (r .1))
 
   pub no-room : (old : List ℕ) → length old < length (packed ws) → packAnswer is ms vs (length old) ≡ refused 10 (length (packed ws))
   no-room old h =
-      sym (pack-room is ms vs old 0 _ _ (given-check is ms vs given) (room-short (packed ws) (length old) _ refl h) refl .0)
+      sym (pack-room is ms vs old 0 _ _ (given-check is ms vs given) (room-short 10 (length (packed ws)) (length old) _ refl h) refl .0)

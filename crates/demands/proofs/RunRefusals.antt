@@ -10,12 +10,14 @@ use lib.ListN.{length, getD}
 use borrow.Author.Tests.{leb-true, leb-false}
 use Rattle.numbers.specs.Pick.{pick}
 use Rattle.numbers.specs.Answer.{Answer, answered, refused, unlessFault}
+use Rattle.numbers.specs.Room.{andThen, ifRoom}
 use Rattle.numbers.proofs.Answers.{told-apart, number-one, place-one}
+use Rattle.numbers.proofs.Room.{room-refused}
 use Rattle.numbers.proofs.Picks.{pick-either}
 use Rattle.words.specs.Writes.{faultOf}
 use Rattle.runs.specs.PackedList.{writes, packed}
 use Rattle.packer.specs.Checks.{wrong, firstWrong, checkAnswer}
-use Rattle.packer.specs.Packing.{ifRoom, andThen, packAnswer}
+use Rattle.packer.specs.Packing.{packAnswer}
 use Rattle.packer.proofs.Checks.{level, level-lengths, lengths-level, check-given}
 use Rattle.demands.specs.Refusals.{In, OneRefused, RunRefused, PackRefused}
 use Rattle.demands.proofs.Refusals.{Perhaps, perhaps, fault-number}
@@ -76,16 +78,10 @@ unfolding checkAnswer
 check-row is ms vs n p e = by-tests is ms vs n p (level is ms vs) (leb (length is) 4096) refl refl e
 
 -- PACKING
-by-room : (l : List ℕ) (room n p : ℕ) (b : Bool) → leb (length l) room ≡ b
-    → pick b (answered (length l)) (refused 10 (length l)) ≡ refused n p → (n ≡ 10) × (p ≡ length l) × (room < p)
-by-room l room n p true t e = absurd (told-apart e)
-by-room l room n p false t e =
-    let z : p ≡ length l = sym (place-one e) in (sym (number-one e), z, omega (arith, leb-false (length l) room t))
-
 by-check : (is ms vs : List ℕ) (room n p : ℕ) (a : Answer) → checkAnswer is ms vs ≡ a
-    → andThen a (ifRoom (packed (writes is ms vs)) room) ≡ refused n p → PackRefused is ms vs room n p
+    → andThen a (ifRoom 10 (length (packed (writes is ms vs))) room) ≡ refused n p → PackRefused is ms vs room n p
 by-check is ms vs room n p (answered m) c e =
-    let r = by-room (packed (writes is ms vs)) room n p (leb (length (packed (writes is ms vs))) room) refl e in
+    let r = room-refused 10 (length (packed (writes is ms vs))) room n p e in
     inr (r .0, check-given is ms vs m c, r .1, r .2)
 by-check is ms vs room n p (refused m q) c e = inl (check-row is ms vs n p (c ∙ e))
 

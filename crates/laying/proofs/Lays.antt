@@ -10,11 +10,12 @@ use lib.ListN.{length, getD, take, drop, set, length-append, length-drop}
 use lib.Seq.{length-take-le, take-all, take-at, drop-at, take-add, drop-drop, getD-drop, paste, paste-zero, drop-paste}
 use borrow.Author.Tests.{lt-ltb, le-ltb, eqb-true, eqb-false}
 use Rattle.numbers.specs.Pick.{pick}
-use Rattle.numbers.proofs.Copy.{next-word}
+use Rattle.numbers.proofs.Copy.{next-word, copy-more}
+use Rattle.numbers.proofs.Room.{next-part, next-rest}
 use Rattle.words.specs.Writes.{Write, writing}
 use Rattle.cuts.specs.Cuts.{words, first}
 use Rattle.runs.specs.Span.{span}
-use Rattle.runs.specs.PackedList.{writes, values, PackableRun, stepFor, header, command, OneCommand, packed}
+use Rattle.runs.specs.PackedList.{writes, PackableRun, stepFor, header, command, OneCommand, packed}
 use Rattle.runs.proofs.Chain.{step-lone, step-same, step-rise}
 use Rattle.runs.proofs.Command.{command-extra, command-pad}
 use Rattle.runs.proofs.PackedList.{packed-none, packed-more, first-command}
@@ -22,18 +23,6 @@ use Rattle.runs.proofs.RoundTrip.{plain-drop}
 use Rattle.runs.proofs.Shortest.{plain}
 use Rattle.runs.proofs.Writes.{writes-length, writes-at, values-from}
 use Rattle.laying.specs.Laying.{stepAt, afterShort}
-
--- a copy of more words over a copy of fewer
-pub copy-more : (old s : List ℕ) (at j n : ℕ) → at + n ≤ length old → j ≤ length s → j ≤ n
-    → paste (paste old at s j) at s n ≡ paste old at s n
-copy-more old s at j n h q r =
-    let front : take at (paste old at s j) ≡ take at old =
-    ap (take at) (append-assoc (take at old) (take j s) (drop (at + j) old))
-    ∙ take-at (take at old) (take j s ++ drop (at + j) old) at (length-take-le at old (omega arith)) in
-    let d : at + j + (n - j) ≡ at + n = omega arith in
-    let back : drop (at + n) (paste old at s j) ≡ drop (at + n) old =
-    rw (← d, ← drop-drop (n - j) (at + j) (paste old at s j), drop-paste old at s j (omega arith) q) (drop-drop (n - j) (at + j) old) in
-    rw (front, back)
 
 pub copied : (old s start new : List ℕ) (at m n : ℕ) → start ≡ paste old at s 2 → new ≡ paste start at s (m + 1) → m + 1 ≡ n → 2 ≤ n
     → at + n ≤ length old → n ≤ length s → new ≡ paste old at s n
@@ -163,25 +152,21 @@ module _ (ws : List Write) (old : List ℕ) (i k at : ℕ) (new : List ℕ) (h :
   whole : drop at P ≡ C ++ R
   whole = D .rest ∙ packed-more (drop i ws) (omega (arith, length-drop i ws)) ∙ rw (← e, drop-drop k i ws)
 
-  next-rest : drop (at + words k) P ≡ R
-  next-rest = sym (drop-drop (words k) at P) ∙ rw whole (drop-at C R (words k) (one-command .long))
-
   pub next-fits : at + words k + length R ≡ length P
   next-fits = omega (arith, D .fits, sym (ap length (D .rest)) ∙ ap length whole ∙ length-append C R, one-command .long)
 
-  grown : take (at + words k) P ≡ take at P ++ C
-  grown = take-add at (words k) P ∙ rw (whole, take-at C R (words k) (one-command .long))
-
-  moved : paste (take at P ++ drop at old) at C (words k) ≡ take (at + words k) P ++ drop (at + words k) old
-  moved =
-      let n = length-take-le at P (omega (arith, D .fits)) in
-      let X = take at P ++ drop at old in
-      let back : drop (at + words k) X ≡ drop (at + words k) old =
-      sym (drop-drop (words k) at X) ∙ rw (drop-at (take at P) (drop at old) at n) (drop-drop (words k) at old) in
-      rw (take-at (take at P) (drop at old) at n, take-all (words k) C (omega (arith, one-command .long)), back, grown)
-
   pub laid-more : Laid ws old (i + k) (at + words k) (paste new at C (words k))
-  laid-more = record { within = next-within; stands = rw (D .stands) moved; rest = next-rest; fits = next-fits }
+  laid-more =
+      let n = words k in
+      let inside : at ≤ length P = omega (arith, D .fits) in
+      let l = one-command .long in (
+      record {
+        within = next-within;
+        stands = rw (D .stands) (next-part P C R old at n inside whole l);
+        rest = next-rest P C R old at n inside whole l;
+        fits = next-fits;
+      }
+      )
 
 -- at the end the whole list stands there
 pub laid-all : (ws : List Write) (old : List ℕ) (i at : ℕ) (new : List ℕ) → length ws ≤ i → Laid ws old i at new

@@ -3,4 +3,5 @@ pub mod Table
 pub mod Merge
 pub mod Copy
 pub mod Answers
+pub mod Room
 pub mod Picks

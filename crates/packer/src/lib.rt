@@ -8,8 +8,9 @@ ghost use Prim.Native.Nat.{ℕ, _≤_, _<_};
 ghost use lib.ListN.{length};
 ghost use Rattle.runs.specs.PackedList.{writes, PackableRun, packed};
 ghost use Rattle.numbers.specs.Answer.{answered};
+ghost use Rattle.numbers.specs.Room.{ifRoom, spaceAfter};
 ghost use Rattle.packer.specs.Checks.{wrong, firstWrong, checkAnswer, found};
-ghost use Rattle.packer.specs.Packing.{told, ifRoom, packAnswer, spaceAfter, packSpace};
+ghost use Rattle.packer.specs.Packing.{told, packAnswer, packSpace};
 use words::Refusal;
 
 // The number of the refusal of a write to `id` under `mask`, 0 for none.
@@ -122,7 +123,7 @@ fn fill(
         ⌝ }
     ensures { λ r. ⌜
         (told r
-        ≡ ifRoom (packed (writes (now (ids .entry)) (now (masks .entry)) (now (values .entry)))) (length (now (space .entry))))
+        ≡ ifRoom 10 (length (packed (writes (now (ids .entry)) (now (masks .entry)) (now (values .entry))))) (length (now (space .entry))))
         × (now (space .exit)
         ≡ spaceAfter (told r) (packed (writes (now (ids .entry)) (now (masks .entry)) (now (values .entry)))) (now (space .entry)))
         ⌝ }

@@ -9,6 +9,8 @@ use Rattle.words.specs.Writes.{writing}
 use Rattle.registers.specs.State.{st}
 use Rattle.registers.specs.Single.{writeAnswer, writeState}
 use Rattle.reader.specs.Read.{readAnswer, readState}
+use Rattle.writes.specs.Listed.{writesAnswer, writesIds, writesMasks, writesValues}
+use Rattle.writes.proofs.Once.{buffers}
 use Rattle.packer.specs.Packing.{packAnswer, packSpace}
 use Rattle.decode.specs.Decoded.{decodedOf}
 use Rattle.pica.specs.Calls.{answer, decodeCall, fieldsAfter, fragmentOf, fragmentCall, storedWordsAfter}
@@ -16,6 +18,8 @@ use Rattle.pica.proofs.pica_read.Reads as read
 use Rattle.pica.proofs.pica_read.Kinds as read-kinds
 use Rattle.pica.proofs.pica_write.Reads as write
 use Rattle.pica.proofs.pica_write.Kinds as write-kinds
+use Rattle.pica.proofs.pica_writes.Reads as writes
+use Rattle.pica.proofs.pica_writes.Kinds as writes-kinds
 use Rattle.pica.proofs.pica_pack.Reads as pack
 use Rattle.pica.proofs.pica_pack.Kinds as pack-kinds
 use Rattle.pica.proofs.pica_decode.Reads as decode
@@ -35,6 +39,17 @@ pica-write-settled κs a =
     let s = st (now (a .0)) (now (a .1 .0)) (now (a .1 .1 .0)) in
     let w = writing (a .1 .1 .1 .0) (a .1 .1 .1 .1 .0) (a .1 .1 .1 .1 .1 .0) in
     settled _ _ (λ r. r) (λ r r′ e. e) (answer (writeAnswer s w)) (writeState s w) (λ r e p. p)
+
+pub pica-writes-settled : (κs : Lfts 4) (a : Dens κs writes-kinds.ps)
+    → Settles (λ e. buffers (now (e .1 .0)) (now (e .1 .1 .0)) (now (e .1 .1 .1 .0))) (writes.Post κs a)
+pica-writes-settled κs a =
+    let l = now (a .0) in
+    let is = now (a .1 .0) in
+    let ms = now (a .1 .1 .0) in
+    let vs = now (a .1 .1 .1 .0) in
+    settled _ _ (λ r. r) (λ r r′ e. e) (answer (writesAnswer l is ms vs))
+    (buffers (writesIds l is ms vs) (writesMasks l is ms vs) (writesValues l is ms vs))
+    (λ r e p. (p .0, rw (p .1 .0, p .1 .1 .0, p .1 .1 .1)))
 
 pub pica-pack-settled : (κs : Lfts 4) (a : Dens κs pack-kinds.ps) → Settles (λ e. now (e .1 .1 .1 .0)) (pack.Post κs a)
 pica-pack-settled κs a =

@@ -9,21 +9,24 @@ use lib.ListN.{length}
 use borrow.Author.Tests.{ltb-true, leb-true, eqb-true}
 use Rattle.numbers.specs.Pick.{pick}
 use Rattle.numbers.specs.Answer.{Answer, answered, refused, unlessFault}
+use Rattle.numbers.specs.Room.{andThen, ifRoom}
 use Rattle.numbers.proofs.Tests.{and-true}
 use Rattle.numbers.proofs.Picks.{pick-either}
 use Rattle.words.specs.Header.{countOf, wordsOf}
 use Rattle.words.specs.Writes.{Write}
-use Rattle.words.specs.Commands.{headerAt, whole, expand, places, commands}
+use Rattle.words.specs.Commands.{headerAt, whole, expand, places, commands, expansion}
 use Rattle.words.proofs.Laws.{run-length}
 use Rattle.registers.specs.State.{State, sized}
 use Rattle.registers.specs.Single.{atZero, refusalOf, writeAnswer}
 use Rattle.reader.specs.ListVerdict.{firstFault, commandFault, judge, verdict}
 use Rattle.reader.specs.Read.{readAnswer}
+use Rattle.reader.proofs.Accepted.{verdict-accepted}
+use Rattle.writes.specs.Listed.{writesAnswer}
 use Rattle.runs.specs.PackedList.{writes, packed}
 use Rattle.runs.proofs.PackedList.{packed-short}
 use Rattle.runs.proofs.Writes.{writes-length}
 use Rattle.packer.specs.Checks.{wrong, firstWrong, checkAnswer}
-use Rattle.packer.specs.Packing.{ifRoom, andThen, packAnswer}
+use Rattle.packer.specs.Packing.{packAnswer}
 use Rattle.packer.proofs.Checks.{check-given}
 use Rattle.decode.specs.Codes.{Check, stageChecks, frameChecks, checks, firstOf, lowest}
 use Rattle.decode.specs.Decoded.{settingsOf, namelessId, refusal, decodedOf}
@@ -102,6 +105,36 @@ at-zero (suc n) = refl
 pub write-uncut : (s : State) (w : Write) → valueIn (writeAnswer s w) ≤ 65536
 write-uncut s w = omega (arith, at-zero (refusalOf s w))
 
+-- where there is room, or none, the value is what is needed
+room-value : (number need : ℕ) (b : Bool) → valueIn (pick b (answered need) (refused number need)) ≡ need
+room-value number need true = refl
+room-value number need false = refl
+
+-- THE WRITES OF A LIST
+
+-- a list has no more writes than words
+few-writes : (l : List ℕ) (n : ℕ) → verdict l ≡ answered n → length (expansion l) ≤ length l
+few-writes l n e =
+    let h : valueIn (verdict l) ≤ length l = verdict-uncut l in
+    let z : n ≤ length l = rw e at h in omega (arith, verdict-accepted l n e .2)
+
+by-verdict : (l : List ℕ) (room : ℕ) (a : Answer) → length l ≤ 65536 → verdict l ≡ a
+    → valueIn (andThen a (ifRoom 22 (length (expansion l)) room)) ≤ 65536
+by-verdict l room (answered n) h e =
+    let w = length (expansion l) in omega (arith, room-value 22 w (leb w room), few-writes l n e)
+by-verdict l room (refused r p) h e = let g : valueIn (verdict l) ≤ length l = verdict-uncut l in omega (arith, rw e at g)
+
+by-lengths : (l : List ℕ) (room : ℕ) (a b : Bool) → leb (length l) 65536 ≡ b
+    → valueIn (pick a (pick b (andThen (verdict l) (ifRoom 22 (length (expansion l)) room)) (refused 1 0)) (refused 7 0)) ≤ 65536
+by-lengths l room true true e = by-verdict l room (verdict l) (leb-true _ _ e) refl
+by-lengths l room true false e = omega arith
+by-lengths l room false b e = omega arith
+
+pub writes-uncut : (l is ms vs : List ℕ) → valueIn (writesAnswer l is ms vs) ≤ 65536
+unfolding writesAnswer
+writes-uncut l is ms vs =
+    by-lengths l (length is) (eqb (length is) (length ms) && eqb (length is) (length vs)) (leb (length l) 65536) refl
+
 -- PACKING
 
 unless-wrong : (f p b : ℕ) (rest : Answer) → p ≤ b → valueIn rest ≤ b → valueIn (unlessFault f p rest) ≤ b
@@ -128,17 +161,13 @@ check-uncut : (is ms vs : List ℕ) → valueIn (checkAnswer is ms vs) ≤ 65536
 unfolding checkAnswer
 check-uncut is ms vs = by-level is ms vs (eqb (length is) (length ms) && eqb (length is) (length vs)) (leb (length is) 4096) refl refl
 
-room-value : (l : List ℕ) (room : ℕ) (b : Bool) → valueIn (pick b (answered (length l)) (refused 10 (length l))) ≡ length l
-room-value l room true = refl
-room-value l room false = refl
-
 by-check : (is ms vs : List ℕ) (room : ℕ) (a : Answer) → checkAnswer is ms vs ≡ a
-    → valueIn (andThen a (ifRoom (packed (writes is ms vs)) room)) ≤ 65536
+    → valueIn (andThen a (ifRoom 10 (length (packed (writes is ms vs))) room)) ≤ 65536
 by-check is ms vs room (answered n) e =
     let g = check-given is ms vs n e in
     let ws = writes is ms vs in
     let l = writes-length is ms vs (g .masks) (g .values) in
-    omega (arith, room-value (packed ws) room (leb (length (packed ws)) room), packed-short ws, l, g .few)
+    omega (arith, room-value 10 (length (packed ws)) (leb (length (packed ws)) room), packed-short ws, l, g .few)
 by-check is ms vs room (refused r p) e = let h : valueIn (checkAnswer is ms vs) ≤ 65536 = check-uncut is ms vs in rw e at h
 
 pub pack-uncut : (is ms vs : List ℕ) (room : ℕ) → valueIn (packAnswer is ms vs room) ≤ 65536

@@ -6,6 +6,7 @@ ghost use Rattle.words.specs.Writes.{writing};
 ghost use Rattle.registers.specs.State.{st};
 ghost use Rattle.registers.specs.Single.{writeAnswer, writeState};
 ghost use Rattle.reader.specs.Read.{readAnswer, readState};
+ghost use Rattle.writes.specs.Listed.{writesAnswer, writesIds, writesMasks, writesValues};
 ghost use Rattle.packer.specs.Packing.{packAnswer, packSpace};
 ghost use Rattle.decode.specs.Decoded.{decodedOf};
 ghost use Rattle.stores.specs.Tests.{verdictNumber};
@@ -70,6 +71,25 @@ pub extern "C" fn pica_write(
     match registers::write(cells, fog, light, id, mask, value) {
         Written::Done => 0,
         Written::Refused(why) => told(why.number, why.place),
+    }
+}
+
+// The writes of a list, put into three buffers: how many there are.
+#[no_mangle]
+pub extern "C" fn pica_writes(
+    list: &[u32],
+    ids: &mut [u32],
+    masks: &mut [u32],
+    values: &mut [u32],
+) -> u64
+    ensures answer { λ r. ⌜ r ≡ answer (writesAnswer (now (list .entry)) (now (ids .entry)) (now (masks .entry)) (now (values .entry))) ⌝ }
+    ensures ids { λ _. ⌜ now (ids .exit) ≡ writesIds (now (list .entry)) (now (ids .entry)) (now (masks .entry)) (now (values .entry)) ⌝ }
+    ensures masks { λ _. ⌜ now (masks .exit) ≡ writesMasks (now (list .entry)) (now (ids .entry)) (now (masks .entry)) (now (values .entry)) ⌝ }
+    ensures values { λ _. ⌜ now (values .exit) ≡ writesValues (now (list .entry)) (now (ids .entry)) (now (masks .entry)) (now (values .entry)) ⌝ }
+{
+    match writes::writes_of(list, ids, masks, values) {
+        ListVerdict::Accepted(n) => told(0, n),
+        ListVerdict::Refused(why) => told(why.number, why.place),
     }
 }
 

@@ -8,14 +8,14 @@ use lib.ListN.{length, getD, take, drop, length-append, length-drop, take-append
 use lib.Seq.{drop-drop, drop-at, getD-drop}
 use borrow.Author.Tests.{le-leb, ne-eqb}
 use Rattle.words.specs.Header.{maskOf, countOf, stepOf, wordsOf}
-use Rattle.words.specs.Writes.{Write, writing}
+use Rattle.words.specs.Writes.{Write, writing, valuesIn}
 use Rattle.words.specs.Commands.{headerAt, paramAt, run, expand, commands, join, full}
 use Rattle.words.proofs.Laws.{commands-end, commands-step, join-none, join-more, full-none, full-more}
 use Rattle.cuts.specs.Cuts.{words, first, sizes}
 use Rattle.cuts.proofs.Rests.{by-rests}
 use Rattle.cuts.proofs.Steps.{sizes-nil, sizes-cons}
 use Rattle.runs.specs.Span.{chain, span}
-use Rattle.runs.specs.PackedList.{values, stepFor, header, command, OneCommand, packed}
+use Rattle.runs.specs.PackedList.{stepFor, header, command, OneCommand, packed}
 use Rattle.runs.specs.Shortest.{carried, Tidy, AllTidy}
 use Rattle.runs.proofs.Chain.{spans, chain-fits, chain-next, step-lone, step-chain}
 use Rattle.runs.proofs.Command.{Parts, header-parts, command-extra, command-pad}
@@ -35,7 +35,7 @@ plain-drop (suc k) (w ∷ l) p = plain-drop k l (p .2)
 module _ (L : List ℕ) (at : ℕ) where
   -- its parameters from j on are these values
   abbrev Gives : ℕ → ℕ → List Write → Type 0
-  Gives n j ws = (x : ℕ) → x ≤ n → paramAt L at (j + x) ≡ getD (values ws) x 0
+  Gives n j ws = (x : ℕ) → x ≤ n → paramAt L at (j + x) ≡ getD (valuesIn ws) x 0
 
   one-takes : (n j : ℕ) (w : Write) (l : List Write) → maskOf (headerAt L at) ≡ w .mask → Gives n j (w ∷ l)
       → writing (w .id) (maskOf (headerAt L at)) (paramAt L at j) ≡ w

@@ -6,11 +6,11 @@ use native.Mathlib.Omega.{arith}
 use lib.Dec.{leb}
 use lib.ListN.{length, take, drop, replicate}
 use Rattle.numbers.proofs.Picks.{pick-either}
-use Rattle.words.specs.Writes.{Write}
+use Rattle.words.specs.Writes.{Write, valuesIn}
 use Rattle.cuts.specs.Cuts.{first}
 use Rattle.cuts.proofs.Rests.{by-rests}
 use Rattle.runs.specs.Span.{chain, span}
-use Rattle.runs.specs.PackedList.{values, Packable, stepFor, header, command, packed}
+use Rattle.runs.specs.PackedList.{Packable, stepFor, header, command, packed}
 use Rattle.runs.specs.Shortest.{Shortest, Words32}
 use Rattle.runs.proofs.PackedList.{packed-none, packed-more, first-command}
 use Rattle.runs.proofs.RoundTrip.{Plain, plain-drop}
@@ -44,7 +44,7 @@ small-zeros (suc n) = (omega arith, small-zeros n)
 abbrev pub Values32 : List Write → Type 0
 Values32 ws = Each (λ w. w .value < 0x100000000) ws
 
-small-values : (l : List Write) → Values32 l → Small (values l)
+small-values : (l : List Write) → Values32 l → Small (valuesIn l)
 small-values [] v = tt
 small-values (w ∷ l) v = (v .0, small-values l (v .1))
 
@@ -56,8 +56,8 @@ small-command : (k : ℕ) (ws : List Write) → k ≤ 256 → Plain ws → Value
 small-command k [] h p v = tt
 small-command k (w ∷ l) h p v =
     let s = pick-either (λ s. s < 2) (leb k (chain 0 (w ∷ l))) {x = 0} {y = 1} (omega arith) (omega arith) in
-    let t = small-take (k - 1) (values l) (small-values l (v .1)) in
-    let e = small-append (take (k - 1) (values l)) _ t (small-zeros ((k + 1) % 2)) in
+    let t = small-take (k - 1) (valuesIn l) (small-values l (v .1)) in
+    let e = small-append (take (k - 1) (valuesIn l)) _ t (small-zeros ((k + 1) % 2)) in
     (v .0, (small-header (w .id) (w .mask) k (stepFor k (w ∷ l)) (p .0) (p .1) h s, e))
 
 -- THE LIST

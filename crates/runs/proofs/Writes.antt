@@ -5,8 +5,8 @@ use Prim.Native.Nat.{ℕ, zero, suc, _+_, _<_}
 use native.Mathlib.Numerals.{add-one}
 use native.Mathlib.Omega.{arith}
 use lib.ListN.{length, getD, drop}
-use Rattle.words.specs.Writes.{writing}
-use Rattle.runs.specs.PackedList.{writes, values}
+use Rattle.words.specs.Writes.{writing, valuesIn}
+use Rattle.runs.specs.PackedList.{writes}
 
 pub writes-length : (is ms vs : List ℕ) → length is ≡ length ms → length is ≡ length vs → length (writes is ms vs) ≡ length is
 writes-length [] ms vs e f = refl
@@ -29,7 +29,7 @@ writes-at is ms vs j e f h = rw add-one (cons is ms vs j e f h)
 
 -- the values from write j on
 pub values-from : (is ms vs : List ℕ) (j : ℕ) → length is ≡ length ms → length is ≡ length vs
-    → values (drop j (writes is ms vs)) ≡ drop j vs
+    → valuesIn (drop j (writes is ms vs)) ≡ drop j vs
 values-from [] ms [] zero e f = refl
 values-from [] ms [] (suc j) e f = refl
 values-from [] ms (v ∷ vs) j e f = absurd (omega arith)

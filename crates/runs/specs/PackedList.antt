@@ -1,12 +1,12 @@
 -- The list that the packer writes for a run of writes.
 use mathlib.Core.Path.{_≡_}
 use mathlib.Core.Bool.{true}
-use mathlib.Core.List.{List, [], _∷_, _++_, map}
+use mathlib.Core.List.{List, [], _∷_, _++_}
 use Prim.Native.Nat.{ℕ, _+_, _*_, _-_, _%_, _≤_}
 use lib.Dec.{leb}
 use lib.ListN.{length, take, drop, replicate}
 use Rattle.numbers.specs.Pick.{pick}
-use Rattle.words.specs.Writes.{Write, writing, allowed}
+use Rattle.words.specs.Writes.{Write, writing, valuesIn, allowed}
 use Rattle.cuts.specs.Cuts.{words, sizes}
 use Rattle.runs.specs.Span.{chain, span}
 
@@ -16,9 +16,6 @@ writes [] ms vs = []
 writes (i ∷ is) [] vs = []
 writes (i ∷ is) (m ∷ ms) [] = []
 writes (i ∷ is) (m ∷ ms) (v ∷ vs) = writing i m v ∷ writes is ms vs
-
-abbrev pub values : List Write → List ℕ
-values l = map (λ (w : Write). w .value) l
 
 -- a run that can be packed: no mask is above 15, and every write is allowed
 abbrev pub Packable : List Write → Type 0
@@ -44,7 +41,7 @@ header i m k s = i + m * 0x10000 + (k - 1) * 0x100000 + s * 0x80000000
 abbrev pub command : ℕ → List Write → List ℕ
 command k [] = []
 command k (w ∷ l) =
-    w .value ∷ header (w .id) (w .mask) k (stepFor k (w ∷ l)) ∷ take (k - 1) (values l) ++ replicate ((k + 1) % 2) 0
+    w .value ∷ header (w .id) (w .mask) k (stepFor k (w ∷ l)) ∷ take (k - 1) (valuesIn l) ++ replicate ((k + 1) % 2) 0
 
 -- one command can carry the first k writes of a run, with what follows from that for whoever writes it. Not of the document
 pub record OneCommand (ws : List Write) (k : ℕ) : Type 0 where

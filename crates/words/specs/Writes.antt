@@ -1,6 +1,7 @@
 -- A single write, and when it is allowed: said twice, as the document does, and law `allowed-fault` has the two agree. A mask above 15
 -- can't stand in a header; where it is given as a number, it is refused with 9 before these tests.
 use mathlib.Core.Bool.{Bool, not, _&&_, _||_}
+use mathlib.Core.List.{List, map}
 use Prim.Native.Nat.{ℕ}
 use lib.Dec.{leb, ltb, eqb}
 use Rattle.numbers.specs.Pick.{pick, within}
@@ -12,6 +13,16 @@ pub record Write : Type 0 where
 
 abbrev pub writing : ℕ → ℕ → ℕ → Write
 writing i m v = record { id = i; mask = m; value = v }
+
+-- a run of writes as three rows: its ids, its masks, its values
+abbrev pub idsIn : List Write → List ℕ
+idsIn ws = map (λ (w : Write). w .id) ws
+
+abbrev pub masksIn : List Write → List ℕ
+masksIn ws = map (λ (w : Write). w .mask) ws
+
+abbrev pub valuesIn : List Write → List ℕ
+valuesIn ws = map (λ (w : Write). w .value) ws
 
 -- the jump registers
 abbrev pub jumps : ℕ → Bool

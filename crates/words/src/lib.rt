@@ -37,6 +37,8 @@ pub const CODE_WITHOUT_NAME: u32 = 13;
 
 pub const NOT_BUILT: u32 = 14;
 
+pub const NO_ROOM_FOR_WRITES: u32 = 22;
+
 // The parts of a header: count is the number of extra parameters, step 1 where ids rise.
 pub struct Header {
     pub id: u32,

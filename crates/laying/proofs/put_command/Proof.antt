@@ -9,8 +9,8 @@ use lib.Seq.{paste}
 use borrow.Author.Needs.{needs}
 use Rattle.cuts.specs.Cuts.{words}
 use Rattle.runs.specs.PackedList.{writes, header, command}
-use Rattle.numbers.proofs.Copy.{next-word}
-use Rattle.laying.proofs.Lays.{copy-more, copied, word-extra, word-pad, plain-at, two-words, short-words}
+use Rattle.numbers.proofs.Copy.{next-word, copy-more}
+use Rattle.laying.proofs.Lays.{copied, word-extra, word-pad, plain-at, two-words, short-words}
 use Rattle.laying.proofs.put_command.Statement.{statement}
 use Rattle.laying.proofs.put_command.Tie as tie
 

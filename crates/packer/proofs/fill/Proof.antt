@@ -1,10 +1,11 @@
 -- The plan gives the length of the packed list; the test for room decides as `ifRoom` does. Assumes nothing.
 use mathlib.Core.Path.{refl, sym, _∙_}
 use native.Mathlib.Omega.{arith}
+use lib.ListN.{length}
 use borrow.Author.Needs.{needs}
+use Rattle.numbers.proofs.Room.{room-enough, room-short}
 use Rattle.runs.specs.PackedList.{writes, packed}
 use Rattle.runs.proofs.PackedList.{packed-length}
-use Rattle.packer.proofs.Packs.{room-enough, room-short}
 use Rattle.packer.proofs.fill.Statement.{statement}
 use Rattle.packer.proofs.fill.Tie as tie
 
@@ -25,7 +26,7 @@ returns c =
     let a = b .args in
     let p = c .before .before .before .before .before .plan-run .ensures (a .values .now) (b .pre .0 .values) in
     let ws = writes (a .ids .now) (a .masks .now) (a .values .now) in
-    (room-short (packed ws) _ _ (p .words ∙ sym (packed-length ws)) (c .if1 .taken), refl)
+    (room-short 10 (length (packed ws)) _ _ (p .words ∙ sym (packed-length ws)) (c .if1 .taken), refl)
 
 lay-out-requires : tie.Need-lay-out-requires
 lay-out-requires c κs =
@@ -55,7 +56,7 @@ returns-2 c =
     let p = o .ensures (a .values .now) (b .pre .0 .values) in
     let ws = writes (a .ids .now) (a .masks .now) (a .values .now) in
     let e = p .words ∙ sym (packed-length ws) in
-    (room-enough (packed ws) _ _ e (c .before .before .before .before .before .if1 .left), rw e (c .before .before .lay-out .ensures))
+    (room-enough 10 (length (packed ws)) _ _ e (c .before .before .before .before .before .if1 .left), rw e (c .before .before .lay-out .ensures))
 
 pub fill-spec : {M : Type 1} → statement M
 fill-spec =

@@ -1,0 +1,4 @@
+pub mod Rows
+pub mod Standing
+pub mod Listed
+pub mod Once

@@ -1,0 +1,32 @@
+-- What is answered for the writes of a list, and what the three buffers then hold. Not of the document, which defines the expansion and
+-- gives no call for it; 22 is our number here.
+use mathlib.Core.Bool.{_&&_}
+use mathlib.Core.List.{List}
+use Prim.Native.Nat.{ℕ}
+use lib.Dec.{leb, eqb}
+use lib.ListN.{length}
+use Rattle.numbers.specs.Pick.{pick}
+use Rattle.numbers.specs.Answer.{Answer, refused}
+use Rattle.numbers.specs.Room.{andThen, ifRoom, spaceAfter}
+use Rattle.words.specs.Writes.{idsIn, masksIn, valuesIn}
+use Rattle.words.specs.Commands.{expansion}
+use Rattle.reader.specs.ListVerdict.{verdict}
+
+-- for a list and three buffers, ids, masks and values: 7 where they differ in length; then the reader's refusals of the list, 1 and then
+-- the commands'; then the number of its writes where there are places for them, else 22 with the places needed
+unfoldable pub writesAnswer : List ℕ → List ℕ → List ℕ → List ℕ → Answer
+writesAnswer l is ms vs =
+    pick (eqb (length is) (length ms) && eqb (length is) (length vs))
+    (pick (leb (length l) 65536) (andThen (verdict l) (ifRoom 22 (length (expansion l)) (length is))) (refused 1 0))
+    (refused 7 0)
+
+-- the ids, masks and values of the expansion stand at the start of the buffers, and the places past them keep their contents; on a refusal
+-- all places do
+abbrev pub writesIds : List ℕ → List ℕ → List ℕ → List ℕ → List ℕ
+writesIds l is ms vs = spaceAfter (writesAnswer l is ms vs) (idsIn (expansion l)) is
+
+abbrev pub writesMasks : List ℕ → List ℕ → List ℕ → List ℕ → List ℕ
+writesMasks l is ms vs = spaceAfter (writesAnswer l is ms vs) (masksIn (expansion l)) ms
+
+abbrev pub writesValues : List ℕ → List ℕ → List ℕ → List ℕ → List ℕ
+writesValues l is ms vs = spaceAfter (writesAnswer l is ms vs) (valuesIn (expansion l)) vs

@@ -1,0 +1,132 @@
+// The writes of a list: the list is judged as the reader judges it, and then its writes are put into three buffers, ids, masks and
+// values, command by command. The contracts cite specs/Listed.antt.
+ghost use mathlib.Core.Path.{_≡_};
+ghost use mathlib.Core.Bool.{true};
+ghost use mathlib.Core.List.{_++_};
+ghost use Prim.Native.Nat.{_+_, _≤_};
+ghost use lib.ListN.{length, drop};
+ghost use lib.Seq.{paste};
+ghost use Rattle.words.specs.Header.{countOf, wordsOf};
+ghost use Rattle.words.specs.Writes.{idsIn, masksIn, valuesIn};
+ghost use Rattle.words.specs.Commands.{headerAt, expand, expansion, wellFormed};
+ghost use Rattle.reader.specs.Read.{told};
+ghost use Rattle.writes.specs.Listed.{writesAnswer, writesIds, writesMasks, writesValues};
+use reader::ListVerdict;
+use words::Refusal;
+
+// The writes of the command at `at`, into the places from `k` on: its first value stands before the header, the others after it.
+fn put_command(
+    list: &[u32],
+    at: usize,
+    ids: &mut [u32],
+    masks: &mut [u32],
+    values: &mut [u32],
+    k: usize,
+)
+    requires { ⌜ at + wordsOf (headerAt (now list) at) ≤ length (now list) ⌝ }
+    requires { ⌜
+        (k + (countOf (headerAt (now list) at) + 1) ≤ length (now ids)) × (length (now ids) ≡ length (now masks))
+        × (length (now ids) ≡ length (now values))
+        ⌝ }
+    ensures ids { λ _. ⌜
+        now (ids .exit)
+        ≡ paste (now (ids .entry)) k (idsIn (expand (now (list .entry)) at)) (countOf (headerAt (now (list .entry)) at) + 1)
+        ⌝ }
+    ensures masks { λ _. ⌜
+        now (masks .exit)
+        ≡ paste (now (masks .entry)) k (masksIn (expand (now (list .entry)) at)) (countOf (headerAt (now (list .entry)) at) + 1)
+        ⌝ }
+    ensures values { λ _. ⌜
+        now (values .exit)
+        ≡ paste (now (values .entry)) k (valuesIn (expand (now (list .entry)) at)) (countOf (headerAt (now (list .entry)) at) + 1)
+        ⌝ }
+{
+    let h = words::parts(list[at + 1]);
+    let mask = h.mask;
+    let step = h.step;
+    let count = h.count as usize;
+    let mut id = h.id;
+    ids[k] = id;
+    masks[k] = mask;
+    values[k] = list[at];
+    let mut m = 0;
+    while m < count {
+        id += step;
+        m += 1;
+        ids[k + m] = id;
+        masks[k + m] = mask;
+        values[k + m] = list[at + 1 + m];
+    }
+}
+
+// The writes of a well-formed list, into buffers that have room for them.
+fn put_list(list: &[u32], ids: &mut [u32], masks: &mut [u32], values: &mut [u32])
+    requires { ⌜ wellFormed (now list) ≡ true ⌝ }
+    requires { ⌜
+        (length (expansion (now list)) ≤ length (now ids)) × (length (now ids) ≡ length (now masks))
+        × (length (now ids) ≡ length (now values))
+        ⌝ }
+    ensures ids { λ _. ⌜
+        now (ids .exit)
+        ≡ idsIn (expansion (now (list .entry))) ++ drop (length (expansion (now (list .entry)))) (now (ids .entry))
+        ⌝ }
+    ensures masks { λ _. ⌜
+        now (masks .exit)
+        ≡ masksIn (expansion (now (list .entry))) ++ drop (length (expansion (now (list .entry)))) (now (masks .entry))
+        ⌝ }
+    ensures values { λ _. ⌜
+        now (values .exit)
+        ≡ valuesIn (expansion (now (list .entry))) ++ drop (length (expansion (now (list .entry)))) (now (values .entry))
+        ⌝ }
+{
+    let mut at = 0;
+    let mut k = 0;
+    while at < list.len() {
+        let h = words::parts(list[at + 1]);
+        let count = h.count as usize;
+        let taken = words::words_taken(h);
+        put_command(list, at, ids, masks, values, k);
+        k += count + 1;
+        at += taken;
+    }
+}
+
+// The writes of a list put into three buffers of one length, from their start: how many there are; or a refusal, 7, then the reader's of
+// the list, then 22 with the places needed. Places past the writes keep their contents; on a refusal all of them do.
+pub fn writes_of(
+    list: &[u32],
+    ids: &mut [u32],
+    masks: &mut [u32],
+    values: &mut [u32],
+) -> ListVerdict
+    ensures answer { λ r. ⌜ told r ≡ writesAnswer (now (list .entry)) (now (ids .entry)) (now (masks .entry)) (now (values .entry)) ⌝ }
+    ensures ids { λ _. ⌜ now (ids .exit) ≡ writesIds (now (list .entry)) (now (ids .entry)) (now (masks .entry)) (now (values .entry)) ⌝ }
+    ensures masks { λ _. ⌜ now (masks .exit) ≡ writesMasks (now (list .entry)) (now (ids .entry)) (now (masks .entry)) (now (values .entry)) ⌝ }
+    ensures values { λ _. ⌜ now (values .exit) ≡ writesValues (now (list .entry)) (now (ids .entry)) (now (masks .entry)) (now (values .entry)) ⌝ }
+{
+    let room = ids.len();
+    if !((room == masks.len()) & (room == values.len())) {
+        return ListVerdict::Refused(Refusal {
+            number: words::LENGTHS_DIFFER,
+            place: 0,
+        });
+    }
+    if 65536 < list.len() {
+        return ListVerdict::Refused(Refusal {
+            number: words::LIST_TOO_LONG,
+            place: 0,
+        });
+    }
+    let verdict = reader::judge_list(list);
+    let ListVerdict::Accepted(n) = verdict else {
+        return verdict;
+    };
+    if room < n {
+        return ListVerdict::Refused(Refusal {
+            number: words::NO_ROOM_FOR_WRITES,
+            place: n,
+        });
+    }
+    put_list(list, ids, masks, values);
+    ListVerdict::Accepted(n)
+}
