@@ -180,7 +180,7 @@ fn hud() -> Vec<u32> {
     gpu.end()
 }
 
-/// Thirty models by a driver that packs what it can: little is left to save.
+/// Thirty models by a driver that packs what it can: nothing is left to save.
 fn models() -> Vec<u32> {
     let mut gpu = Driver::new(7);
     gpu.block(
