@@ -1,7 +1,7 @@
 /*
- * Measures the proved library against the plain C version. For each workload both must first give the same answer and leave the same in every buffer;
- * then short bursts of the one and the other take turns. What else runs on the machine meets both bursts of a pair, so that each pair gives a ratio, and
- * the median of these counts: neither a burst that was interrupted nor one that was lucky moves it.
+ * Measures the proved library against the plain C version. For each workload both must first give the same answer and leave the same in
+ * every buffer; then short bursts of the one and the other take turns. What else runs on the machine meets both bursts of a pair, so that
+ * each pair gives a ratio, and the median of these counts: neither a burst that was interrupted nor one that was lucky moves it.
  */
 #include <stdio.h>
 #include <stdlib.h>

@@ -14,6 +14,7 @@ struct state {
 struct library {
     uint64_t (*read)(uint32_t *, size_t, uint32_t *, size_t, uint32_t *, size_t, const uint32_t *, size_t);
     uint64_t (*write)(uint32_t *, size_t, uint32_t *, size_t, uint32_t *, size_t, uint32_t, uint32_t, uint32_t);
+    uint64_t (*writes)(const uint32_t *, size_t, uint32_t *, size_t, uint32_t *, size_t, uint32_t *, size_t);
     uint64_t (*pack)(const uint32_t *, size_t, const uint32_t *, size_t, const uint32_t *, size_t, uint32_t *, size_t);
     uint64_t (*decode)(const uint32_t *, size_t, const uint32_t *, size_t, const uint32_t *, size_t, uint32_t *);
     uint64_t (*fragment)(const uint32_t *, size_t, const uint32_t *, size_t, const uint32_t *, size_t, const uint32_t *, uint32_t *);
@@ -49,6 +50,7 @@ void short_held(struct list *list, size_t words);
 void light_uploads(struct list *list, size_t words);
 void fog_uploads(struct list *list, size_t words);
 void long_unheld(struct list *list, size_t words);
+void one_command(struct list *list, size_t words);
 void long_mixed(struct list *list, size_t words);
 void capture(struct list *list, size_t words);
 void refused_at_last(struct list *list, size_t words);
@@ -66,18 +68,19 @@ enum { CALLS = 4096 }; /* of a round, where a call is a decoding or a fragment *
 struct side {
     struct state state;
     uint32_t space[2 * PICA_RUN_LENGTH_MOST];
+    uint32_t ids[PICA_LIST_LENGTH_MOST], masks[PICA_LIST_LENGTH_MOST], values[PICA_LIST_LENGTH_MOST];
     uint32_t fields[PICA_FIELDS_LENGTH];
     uint32_t stored[CALLS][PICA_STORED_LENGTH];
     uint64_t answers[CALLS]; /* of the last calls */
 };
 
-enum call { READ, WRITE, PACK, DECODE, FRAGMENT };
+enum call { READ, WRITE, WRITES, PACK, DECODE, FRAGMENT };
 
 struct workload {
     const char *what;
     enum call call;
-    size_t each, times;                  /* the words of a list, the writes of a run, or the calls for which a state stays; and how often in a round */
-    void (*list)(struct list *, size_t); /* of a reading */
+    size_t each, times; /* the words of a list, the writes of a run, or the calls for which a state stays; and how often in a round */
+    void (*list)(struct list *, size_t); /* of a reading or of a list's writes */
     void (*run)(struct run *, size_t);   /* of a packing or of single writes */
     void (*drawn)(uint32_t *);           /* of a decoding or a fragment: makes the cells of a state */
     uint32_t number;                     /* the refusal that the calls must give, 0 for none */

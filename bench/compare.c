@@ -4,13 +4,14 @@
 
 #include "bench.h"
 
-enum { READS = 40000, WRITES = 20000, PACKS = 30000, STATES = 30000 };
+enum { READS = 40000, WRITES_ALONE = 20000, LISTS = 30000, PACKS = 30000, STATES = 30000 };
 
 static struct state left_by_ours, left_by_plain;
 
 /* How often each call was answered with each number, so that no rule goes untried unnoticed. */
-static const char *const names[] = {"read", "write", "pack", "decode", "fragment"};
-static unsigned met[5][15];
+static const char *const names[] = {"read", "write", "writes", "pack", "decode", "fragment"};
+enum { CALLS_MADE = 6, NUMBERS = 23 };
+static unsigned met[CALLS_MADE][NUMBERS];
 
 static int alike(enum call call, unsigned which, uint64_t a, uint64_t b, const void *x, const void *y, size_t size) {
     if (a == b && memcmp(x, y, size) == 0) {
@@ -24,11 +25,11 @@ static int alike(enum call call, unsigned which, uint64_t a, uint64_t b, const v
 
 /* Every number that a call can answer with was met at least ten times, and a third of the calls were answered. */
 static int all_met(void) {
-    static const uint16_t numbers[5] = {0x7F, 0x279, 0x7B9, 0x2041, 0x7041}; /* a bit for each */
-    for (int call = 0; call < 5; call++) {
+    static const uint32_t numbers[CALLS_MADE] = {0x7F, 0x279, 0x4000BF, 0x7B9, 0x2041, 0x7041}; /* a bit for each */
+    for (int call = 0; call < CALLS_MADE; call++) {
         unsigned all = 0;
-        for (int k = 0; k < 15; k++) all += met[call][k];
-        for (int k = 0; k < 15; k++)
+        for (int k = 0; k < NUMBERS; k++) all += met[call][k];
+        for (int k = 0; k < NUMBERS; k++)
             if ((numbers[call] >> k & 1) && met[call][k] < (k == 0 ? all / 3 : 10)) {
                 printf("%s: number %d was met in %u random cases only\n", names[call], k, met[call][k]);
                 return 0;
@@ -112,13 +113,34 @@ static int compare_reads(void) {
 static int compare_writes(void) {
     size_t n[3];
     new_states();
-    for (unsigned k = 0; k < WRITES; k++) {
+    for (unsigned k = 0; k < WRITES_ALONE; k++) {
         uint32_t id = below(64) ? edge_id() : any(), mask = below(16) ? edge_mask(id) : below(2) ? below(20) : any(), value = any();
         lengths(n);
         struct state *a = &left_by_ours, *b = &left_by_plain;
         uint64_t x = ours.write(a->cells, n[0], a->fog, n[1], a->light, n[2], id, mask, value);
         uint64_t y = plain.write(b->cells, n[0], b->fog, n[1], b->light, n[2], id, mask, value);
         if (!alike(WRITE, k, x, y, a, b, sizeof *a)) return 0;
+    }
+    return 1;
+}
+
+/* Room for a list's writes, exact, more, or less; three buffers in a row, with words between them that no call may touch. */
+static int compare_lists(void) {
+    enum { BETWEEN = 4 };
+    static struct list list;
+    static uint32_t left[2][3 * (PICA_LIST_LENGTH_MOST + 1 + BETWEEN)];
+    fill(left[0], sizeof left[0] / sizeof left[0][0]);
+    memcpy(left[1], left[0], sizeof left[0]);
+    for (unsigned k = 0; k < LISTS; k++) {
+        random_list(&list);
+        uint64_t asked = plain.writes(list.words, list.length, NULL, 0, NULL, 0, NULL, 0);
+        size_t needed = pica_number(asked) == PICA_NO_ROOM_FOR_WRITES ? pica_value(asked) : list.length, room = needed;
+        if (below(2)) room = below(4) ? list.length : below((uint32_t)needed + 1);
+        size_t n[3] = {room, room, room}, second = room + BETWEEN, third = 2 * second;
+        if (below(64) == 0 && room > 0) n[below(3)]--;
+        uint64_t x = ours.writes(list.words, list.length, left[0], n[0], left[0] + second, n[1], left[0] + third, n[2]);
+        uint64_t y = plain.writes(list.words, list.length, left[1], n[0], left[1] + second, n[1], left[1] + third, n[2]);
+        if (!alike(WRITES, k, x, y, left[0], left[1], (third + second) * sizeof left[0][0])) return 0;
     }
     return 1;
 }
@@ -153,7 +175,8 @@ static int compare_packs(void) {
     memcpy(spaces[1], spaces[0], sizeof spaces[0]);
     for (unsigned k = 0; k < PACKS; k++) {
         random_run(&run);
-        size_t n[3] = {run.length, run.length, run.length}, room = below(4) ? 2 * run.length + below(8) : below(2 * (uint32_t)run.length + 1);
+        size_t n[3] = {run.length, run.length, run.length};
+        size_t room = below(4) ? 2 * run.length + below(8) : below(2 * (uint32_t)run.length + 1);
         if (below(64) == 0 && run.length > 0) n[below(3)]--;
         uint64_t x = ours.pack(run.ids, n[0], run.masks, n[1], run.values, n[2], spaces[0], room);
         uint64_t y = plain.pack(run.ids, n[0], run.masks, n[1], run.values, n[2], spaces[1], room);
@@ -164,7 +187,8 @@ static int compare_packs(void) {
 
 /* Any register with codes. */
 static uint32_t coded_id(void) {
-    static const uint16_t bases[] = {0xC0, 0xC8, 0xD0, 0xD8, 0xF0, 0xF8}, parts[] = {0, 1, 2, 4}, others[] = {0xE0, 0x100, 0x101, 0x116, 0x117};
+    static const uint16_t bases[] = {0xC0, 0xC8, 0xD0, 0xD8, 0xF0, 0xF8}, parts[] = {0, 1, 2, 4};
+    static const uint16_t others[] = {0xE0, 0x100, 0x101, 0x116, 0x117};
     return below(2) ? bases[below(6)] + parts[below(4)] : others[below(5)];
 }
 
@@ -179,7 +203,7 @@ static void idle_stages(uint32_t *cells) {
     }
 }
 
-/* Mostly a state that can be drawn with, often with idle stages; else up to three registers or one depth are random, or a single bit of them. */
+/* Mostly a state that can be drawn with, often with idle stages; else some registers or one depth are random, or a single bit of them. */
 static void random_state(struct state *s, uint32_t given[PICA_GIVEN_LENGTH]) {
     valid_cells(s->cells);
     if (below(2)) s->cells[0x107] |= 0x1F00; /* without it few fragments write a whole colour */
@@ -211,6 +235,6 @@ static int compare_states(void) {
 }
 
 unsigned compare_random(void) {
-    if (!compare_reads() || !compare_writes() || !compare_packs() || !compare_states() || !all_met()) return 0;
-    return READS + WRITES + PACKS + STATES;
+    if (!compare_reads() || !compare_writes() || !compare_lists() || !compare_packs() || !compare_states() || !all_met()) return 0;
+    return READS + WRITES_ALONE + LISTS + PACKS + STATES;
 }

@@ -6,12 +6,14 @@
 
 uint64_t plain_read(uint32_t *cells, size_t cells_length, uint32_t *fog, size_t fog_length, uint32_t *light, size_t light_length,
                     const uint32_t *list, size_t list_length);
-uint64_t plain_write(uint32_t *cells, size_t cells_length, uint32_t *fog, size_t fog_length, uint32_t *light, size_t light_length, uint32_t id,
-                     uint32_t mask, uint32_t value);
-uint64_t plain_pack(const uint32_t *ids, size_t ids_length, const uint32_t *masks, size_t masks_length, const uint32_t *values, size_t values_length,
-                    uint32_t *space, size_t space_length);
-uint64_t plain_decode(const uint32_t *cells, size_t cells_length, const uint32_t *fog, size_t fog_length, const uint32_t *light, size_t light_length,
-                      uint32_t fields[PICA_FIELDS_LENGTH]);
+uint64_t plain_write(uint32_t *cells, size_t cells_length, uint32_t *fog, size_t fog_length, uint32_t *light, size_t light_length,
+                     uint32_t id, uint32_t mask, uint32_t value);
+uint64_t plain_writes(const uint32_t *list, size_t list_length, uint32_t *ids, size_t ids_length, uint32_t *masks, size_t masks_length,
+                      uint32_t *values, size_t values_length);
+uint64_t plain_pack(const uint32_t *ids, size_t ids_length, const uint32_t *masks, size_t masks_length, const uint32_t *values,
+                    size_t values_length, uint32_t *space, size_t space_length);
+uint64_t plain_decode(const uint32_t *cells, size_t cells_length, const uint32_t *fog, size_t fog_length, const uint32_t *light,
+                      size_t light_length, uint32_t fields[PICA_FIELDS_LENGTH]);
 uint64_t plain_fragment(const uint32_t *cells, size_t cells_length, const uint32_t *fog, size_t fog_length, const uint32_t *light,
                         size_t light_length, const uint32_t given[PICA_GIVEN_LENGTH], uint32_t stored[PICA_STORED_LENGTH]);
 

@@ -5,8 +5,8 @@ static inline int among(uint32_t set, uint32_t word, int first, int width) { ret
 
 static int source_lacks(uint32_t r) {
     enum { UNNAMED = 0x1F80 };
-    return among(UNNAMED, r, 0, 4) | among(UNNAMED, r, 4, 4) | among(UNNAMED, r, 8, 4) | among(UNNAMED, r, 16, 4) | among(UNNAMED, r, 20, 4) |
-           among(UNNAMED, r, 24, 4);
+    return among(UNNAMED, r, 0, 4) | among(UNNAMED, r, 4, 4) | among(UNNAMED, r, 8, 4) | among(UNNAMED, r, 16, 4) |
+           among(UNNAMED, r, 20, 4) | among(UNNAMED, r, 24, 4);
 }
 
 static int operand_lacks(uint32_t r) {

@@ -13,7 +13,7 @@ static inline uint32_t plain_bits(uint32_t word, int first, int width) { return 
 static inline uint64_t plain_both(const uint32_t *r) { return r[0] | (uint64_t)r[8] << 32; }
 #define PLAIN_BOTH(mask) (UINT64_C(mask) << 32 | UINT64_C(mask))
 
-/* Not 0 where one of the two stages holds a code without a name. Every code of a register is tested at once, in the bits of its own place. */
+/* Not 0 where one of the two stages holds a code without a name. All codes of a register are tested at once, each in its own bits. */
 static inline uint64_t plain_stages_lack(const uint32_t *r) {
     uint64_t source = plain_both(r), operand = plain_both(r + 1), mode = plain_both(r + 2), scale = plain_both(r + 4);
     uint64_t b1 = source >> 1, b2 = source >> 2, b3 = source >> 3;

@@ -66,7 +66,9 @@ static inline struct rgb rgb_operand(uint32_t code, uint32_t colour) {
     return (struct rgb){x >> (at & 31) & 255, x >> (at >> 8 & 31) & 255, x >> (at >> 16 & 31) & 255};
 }
 
-static inline uint32_t alpha_operand(uint32_t code, uint32_t colour) { return (colour ^ -(code & 1)) >> ((8 * (code >> 1) + 24) & 31) & 255; }
+static inline uint32_t alpha_operand(uint32_t code, uint32_t colour) {
+    return (colour ^ -(code & 1)) >> ((8 * (code >> 1) + 24) & 31) & 255;
+}
 
 /* A stage that hands on what it sees as Previous is passed over. */
 static inline int is_idle(const uint32_t *r) { return ((~r[0] & 0xF000F) | (r[1] & 0x700F) | (r[2] & 0xF000F) | (r[4] & 0x30003)) == 0; }
@@ -181,7 +183,8 @@ static uint64_t state_refused(const uint32_t *cells) {
 
 /* Not 0 where a code has no name or something isn't built; which comes first is looked for only then. */
 static inline uint64_t some_refused(const uint32_t *cells) {
-    return plain_some_lack(cells) | (cells[0xE0] & 7) | (cells[0x100] & 0x3000103) | ((cells[0x117] & 0x70003) ^ 2) | ((cells[0x116] & 3) == 1);
+    return plain_some_lack(cells) | (cells[0xE0] & 7) | (cells[0x100] & 0x3000103) | ((cells[0x117] & 0x70003) ^ 2) |
+           ((cells[0x116] & 3) == 1);
 }
 
 /* The verdict; the stencil is changed in place. */

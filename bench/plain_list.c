@@ -1,5 +1,5 @@
 /* The plain reader: one pass that judges the list, one that applies it. */
-#include "plain.h"
+#include "plain_list.h"
 
 #define STAGE(b) [b] = 0xFFF0FFF, [b + 1] = 0x777FFF, [b + 2] = 0xF000F, [b + 3] = 0xFFFFFFFF, [b + 4] = 0x30003
 
@@ -18,50 +18,7 @@ static const uint32_t held[PICA_CELLS_LENGTH] = {
     [0x1C5] = 0x1FFF,
 };
 
-struct command {
-    uint32_t id, mask, count, step, words;
-};
-
-static inline struct command command_of(uint32_t header) {
-    struct command c = {header & 0xFFFF, header >> 16 & 15, header >> 20 & 255, header >> 31, 0};
-    c.words = (c.count + 3) & ~UINT32_C(1);
-    return c;
-}
-
-/* JUDGING */
-
-static inline int meets(uint32_t first, uint32_t last, uint32_t from, uint32_t to) { return (first <= to) & (last >= from); }
-
-/* Whether a write with this mask to an id of first..last can be at fault; no branch, since which test decides changes from command to command. */
-static inline int can_fail(uint32_t first, uint32_t last, uint32_t mask) {
-    return (last > 0x2FF) | meets(first, last, 0x23C, 0x23D) | ((mask != 15) & (meets(first, last, 0xE8, 0xEF) | meets(first, last, 0x1C8, 0x1CF)));
-}
-
-/* The first fault of a command that has one. */
-static uint32_t fault_of(struct command c) {
-    for (;; c.id++) {
-        uint32_t number = plain_fault(c.id, c.mask);
-        if (number) return number;
-    }
-}
-
-/* The number of writes, or the refusal. */
-static uint64_t judge(const uint32_t *list, size_t length) {
-    const uint32_t *at = list;
-    size_t writes = 0;
-    for (size_t left = length; left > 0;) {
-        if (left < 2) return plain_refused(PICA_WORDS_MISSING, (uint32_t)(at - list));
-        struct command c = command_of(at[1]);
-        if (left < c.words) return plain_refused(PICA_WORDS_MISSING, (uint32_t)(at - list));
-        if (can_fail(c.id, c.id + c.step * c.count, c.mask)) return plain_refused(fault_of(c), (uint32_t)(at - list));
-        writes += c.count + 1;
-        at += c.words;
-        left -= c.words;
-    }
-    return writes;
-}
-
-/* APPLYING: what was judged is applied without another look. The buffers are lent apart, so that the loops may go by several words at once. */
+/* APPLYING: what was judged is applied without another look. The buffers are lent apart, so that loops may go by several words at once. */
 
 static inline uint32_t low_24(uint32_t entry, uint32_t value) { return (entry & 0xFF000000) | (value & 0xFFFFFF); }
 
@@ -111,8 +68,8 @@ static inline int is_light(uint32_t id) { return id - 0x1C8 < 8; }
 
 static inline int is_port(uint32_t id) { return is_fog(id) | is_light(id); }
 
-static inline void put_port(uint32_t *restrict cells, uint32_t *restrict fog, uint32_t *restrict light, uint32_t id, const uint32_t *restrict values,
-                            uint32_t count) {
+static inline void put_port(uint32_t *restrict cells, uint32_t *restrict fog, uint32_t *restrict light, uint32_t id,
+                            const uint32_t *restrict values, uint32_t count) {
     if (is_fog(id))
         upload_fog(cells, fog, values, count);
     else
@@ -123,7 +80,8 @@ static inline void put_port(uint32_t *restrict cells, uint32_t *restrict fog, ui
 static inline void put_rising(uint32_t *restrict cells, uint32_t *restrict fog, uint32_t *restrict light, uint32_t id, uint32_t bytes,
                               const uint32_t *restrict values, uint32_t count) {
     while (count > 0) {
-        uint32_t next = id < 0xE8 ? 0xE8 : id < 0xF0 ? 0xF0 : id < 0x1C8 ? 0x1C8 : id < 0x1D0 ? 0x1D0 : 0x300, part = least(count, next - id);
+        uint32_t next = id < 0xE8 ? 0xE8 : id < 0xF0 ? 0xF0 : id < 0x1C8 ? 0x1C8 : id < 0x1D0 ? 0x1D0 : 0x300;
+        uint32_t part = least(count, next - id);
         if (is_port(id))
             put_port(cells, fog, light, id, values, part);
         else
@@ -135,7 +93,8 @@ static inline void put_rising(uint32_t *restrict cells, uint32_t *restrict fog, 
 }
 
 /* A command's first value stands before its header, the others after it. Of several writes to one register the last decides. */
-static void apply(uint32_t *restrict cells, uint32_t *restrict fog, uint32_t *restrict light, const uint32_t *restrict at, const uint32_t *end) {
+static void apply(uint32_t *restrict cells, uint32_t *restrict fog, uint32_t *restrict light, const uint32_t *restrict at,
+                  const uint32_t *end) {
     while (at < end) {
         struct command c = command_of(at[1]);
         uint32_t bytes = spread(c.mask);
@@ -164,8 +123,8 @@ uint64_t plain_read(uint32_t *cells, size_t cells_length, uint32_t *fog, size_t 
     return answer;
 }
 
-uint64_t plain_write(uint32_t *cells, size_t cells_length, uint32_t *fog, size_t fog_length, uint32_t *light, size_t light_length, uint32_t id,
-                     uint32_t mask, uint32_t value) {
+uint64_t plain_write(uint32_t *cells, size_t cells_length, uint32_t *fog, size_t fog_length, uint32_t *light, size_t light_length,
+                     uint32_t id, uint32_t mask, uint32_t value) {
     if (!plain_is_sized(cells_length, fog_length, light_length)) return plain_refused(PICA_BUFFER_LENGTH, 0);
     if (mask > 15) return plain_refused(PICA_MASK_ABOVE_15, 0);
     uint32_t number = plain_fault(id, mask);

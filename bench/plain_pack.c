@@ -35,18 +35,20 @@ static void find_links(const uint32_t *restrict ids, const uint32_t *restrict ma
 }
 
 /*
- * Sets take[k] to the writes of the command that begins with write k, and answers the words of the whole list. Only two lengths need a look: the
- * longest that a command can carry, and one less. A cut further forward leaves two commands that could be one, or of which the first could take two
- * more writes from the second at the same cost. Where both cost the same, the longer one has the more writes; so one less is of use only where it saves
- * the padding word: after an even number of writes, where the next command takes the last of them in at no cost.
+ * Sets take[k] to the writes of the command that begins with write k, and answers the words of the whole list. Only two lengths need a
+ * look: the longest that a command can carry, and one less. A cut further forward leaves two commands that could be one, or of which the
+ * first could take two more writes from the second at the same cost. Where both cost the same, the longer one has the more writes; so one
+ * less is of use only where it saves the padding word: after an even number of writes, where the next command takes the last of them in at
+ * no cost.
  *
- * As long as a run isn't longer than a command, all its writes reach to the same end, so that what counts there stays in registers. A run of one or of
- * two costs two words more than what follows its first write: a second write goes in the padding's place, or it is cut off.
+ * As long as a run isn't longer than a command, all its writes reach to the same end, so that what counts there stays in registers. A run
+ * of one or of two costs two words more than what follows its first write: a second write goes in the padding's place, or it is cut off.
  */
 static uint32_t plan(const uint8_t *restrict links, uint32_t count, uint16_t *restrict take) {
     uint16_t costs[PICA_RUN_LENGTH_MOST];
     uint32_t next = 0, after = 0;                     /* the costs from the next write on, and from the one after it */
-    uint32_t kind = APART, run = 0, end = 0, cut = 0; /* of the run that begins here: its writes, the cost after it, whether it may end one earlier */
+    /* of the run that begins here: its writes, the cost after it, whether it may end one earlier */
+    uint32_t kind = APART, run = 0, end = 0, cut = 0;
     for (uint32_t k = count; k-- > 0;) {
         uint32_t link = links[k], joins = link != APART, goes_on = joins & (link == kind);
         run = 1 + (goes_on ? run : joins);
@@ -74,7 +76,8 @@ static void lay_out(const uint32_t *restrict ids, const uint32_t *restrict masks
         uint32_t writes = take[k], step = (links[k] == RISING) & (writes > 1), *to = space + at;
         to[0] = values[k];
         to[1] = ids[k] | masks[k] << 16 | (writes - 1) << 20 | step << 31;
-        if (writes <= 3 && k + 3 <= count && at + 4 <= words) { /* a short one without a loop: the next command overwrites what is too much */
+        /* a short one without a loop: the next command overwrites what is too much */
+        if (writes <= 3 && k + 3 <= count && at + 4 <= words) {
             to[2] = values[k + 1];
             to[3] = writes == 3 ? values[k + 2] : 0;
         } else {
@@ -86,8 +89,8 @@ static void lay_out(const uint32_t *restrict ids, const uint32_t *restrict masks
     }
 }
 
-uint64_t plain_pack(const uint32_t *ids, size_t ids_length, const uint32_t *masks, size_t masks_length, const uint32_t *values, size_t values_length,
-                    uint32_t *space, size_t space_length) {
+uint64_t plain_pack(const uint32_t *ids, size_t ids_length, const uint32_t *masks, size_t masks_length, const uint32_t *values,
+                    size_t values_length, uint32_t *space, size_t space_length) {
     if (ids_length != masks_length || ids_length != values_length) return plain_refused(PICA_LENGTHS_DIFFER, 0);
     if (ids_length > PICA_RUN_LENGTH_MOST) return plain_refused(PICA_TOO_MANY_WRITES, 0);
     if (any_fails(ids, masks, ids_length)) return refused(ids, masks);

@@ -46,6 +46,12 @@ void long_unheld(struct list *list, size_t words) {
     pad(list, words);
 }
 
+/* As many writes as the words allow, to one id. */
+void one_command(struct list *list, size_t words) {
+    list->length = 0;
+    command(list, 0x2C1, 15, (uint32_t)words - 2, 0);
+}
+
 /* Held registers, others and the fog's port, whose index stands two ids before its data. */
 void long_mixed(struct list *list, size_t words) {
     list->length = 0;
@@ -53,7 +59,7 @@ void long_mixed(struct list *list, size_t words) {
     pad(list, words);
 }
 
-/* One object of a captured frame: its shader's constants, its attributes, now and then a table, its stages, its tests, and the call that draws it. */
+/* One object of a captured frame: its shader's constants, its attributes, now and then a table, its stages and tests, and its drawing. */
 static void object(struct list *list) {
     command(list, 0x2C0, 15, 1, 0);
     command(list, 0x2C1, 15, 4 * (1 + below(16)), 0);

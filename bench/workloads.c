@@ -3,10 +3,11 @@
 
 #include "bench.h"
 
-const struct library ours = {pica_read, pica_write, pica_pack, pica_decode, pica_fragment};
-const struct library plain = {plain_read, plain_write, plain_pack, plain_decode, plain_fragment};
+const struct library ours = {pica_read, pica_write, pica_writes, pica_pack, pica_decode, pica_fragment};
+const struct library plain = {plain_read, plain_write, plain_writes, plain_pack, plain_decode, plain_fragment};
 
 #define READING(what, make, words, lists, number) {"read, a word: " what, READ, words, lists, make, NULL, NULL, number}
+#define LISTING(what, make, words, lists, number) {"writes, a word: " what, WRITES, words, lists, make, NULL, NULL, number}
 #define PACKING(what, make, writes, runs) {"pack, a write: " what, PACK, writes, runs, NULL, make, NULL, 0}
 #define DRAWING(what, make, each) {"fragment: " what, FRAGMENT, each, CALLS / each, NULL, NULL, make, 0}
 
@@ -22,6 +23,13 @@ const struct workload workloads[] = {
     READING("list of 64 words", short_held, 64, 1024, 0),
     READING("list of 4 words", short_held, 4, 4096, 0),
     {"write: held registers", WRITE, 4096, 4, NULL, held_writes, NULL, 0},
+    LISTING("like a capture", capture, 8192, 8, 0),
+    LISTING("like a capture, refused at the end", refused_at_last, 8192, 8, PICA_JUMP_REGISTER),
+    LISTING("like a capture, the longest list", capture, 65536, 1, 0),
+    LISTING("short held commands", short_held, 8192, 8, 0),
+    LISTING("long commands, rising, not held", long_unheld, 8192, 1, 0),
+    LISTING("one command of 256 writes", one_command, 258, 64, 0),
+    LISTING("list of 4 words", short_held, 4, 4096, 0),
     PACKING("4,096 writes to few ids", few_ids, 4096, 4),
     PACKING("4,096 writes, rising", rising_ids, 4096, 1),
     PACKING("4,096 writes to one id", equal_ids, 4096, 1),
@@ -84,11 +92,17 @@ static void one_round(const struct workload *w, const struct library *l, struct 
         for (size_t k = 0; k < w->times; k++) s->answers[k % CALLS] = l->read(LENT(&s->state), &list.words[k * n], n);
         break;
     case WRITE:
-        for (size_t k = 0; k < n * w->times; k++) s->answers[k % CALLS] = l->write(LENT(&s->state), writes.ids[k], writes.masks[k], writes.values[k]);
+        for (size_t k = 0; k < n * w->times; k++)
+            s->answers[k % CALLS] = l->write(LENT(&s->state), writes.ids[k], writes.masks[k], writes.values[k]);
+        break;
+    case WRITES:
+        for (size_t k = 0; k < w->times; k++)
+            s->answers[k % CALLS] = l->writes(&list.words[k * n], n, s->ids, n, s->masks, n, s->values, n);
         break;
     case PACK:
         for (size_t k = 0; k < w->times; k++)
-            s->answers[k % CALLS] = l->pack(&writes.ids[k * n], n, &writes.masks[k * n], n, &writes.values[k * n], n, s->space, 2 * PICA_RUN_LENGTH_MOST);
+            s->answers[k % CALLS] =
+                l->pack(&writes.ids[k * n], n, &writes.masks[k * n], n, &writes.values[k * n], n, s->space, 2 * PICA_RUN_LENGTH_MOST);
         break;
     case DECODE:
         for (size_t k = 0; k < CALLS; k++)
@@ -96,7 +110,8 @@ static void one_round(const struct workload *w, const struct library *l, struct 
         break;
     case FRAGMENT:
         for (size_t k = 0; k < CALLS; k++)
-            s->answers[k] = l->fragment(cells[state_of[k]], PICA_CELLS_LENGTH, fog, PICA_FOG_LENGTH, light, PICA_LIGHT_LENGTH, given[k], s->stored[k]);
+            s->answers[k] =
+                l->fragment(cells[state_of[k]], PICA_CELLS_LENGTH, fog, PICA_FOG_LENGTH, light, PICA_LIGHT_LENGTH, given[k], s->stored[k]);
         break;
     }
 }

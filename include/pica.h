@@ -1,7 +1,13 @@
 /*
- * Ilgadeuk's C functions: command lists of the PICA200 read, written, decoded and packed, and one fragment's result.
+ * Ilgadeuk's C functions: command lists of the PICA200 read, taken apart, written, decoded and packed, and one fragment's result.
  *
- * Link libpica.a, which is for x86-64 Linux and needs nothing but the C library.
+ * This is the header of version 0.2.0, and goes with the libpica.a of that version, which stands beside it where both come from
+ * one build; CHANGELOG.md has what each version brought. The library needs nothing but the C library. Where it is installed,
+ *
+ *     cc replayer.c $(pkg-config --cflags --libs pica)
+ *
+ * compiles and links with it; without, name the folder of this header with -I, and libpica.a as an input. It is for Linux, and for
+ * the processor that it was built for: x86-64 from `rt staticlib pica`, that of the machine at hand from `install`.
  *
  * ANSWERS. Each function answers one 64-bit number. Its high 32 bits are 0 where the call was answered, else the number of the
  * refusal; its low 32 bits are the answer, or the refusal's place. pica_number() and pica_value() take it apart. A place that is
@@ -54,10 +60,10 @@ extern "C" {
 
 /*
  * The version of this header and of the library that is built beside it: MAJOR.MINOR.PATCH, and one number to compare, so that
- * #if PICA_VERSION >= 1002 asks for 0.1.2 or a later one.
+ * #if PICA_VERSION >= 2000 asks for 0.2.0 or a later one.
  */
 #define PICA_VERSION_MAJOR 0
-#define PICA_VERSION_MINOR 1
+#define PICA_VERSION_MINOR 2
 #define PICA_VERSION_PATCH 0
 #define PICA_VERSION (PICA_VERSION_MAJOR * 1000000 + PICA_VERSION_MINOR * 1000 + PICA_VERSION_PATCH)
 
@@ -73,7 +79,7 @@ extern "C" {
 #define PICA_LIST_LENGTH_MOST 65536
 #define PICA_RUN_LENGTH_MOST 4096
 
-/* The refusals. Number 11 is not used. */
+/* The refusals. Numbers 11 and 15 to 21 are not used. */
 enum pica_refusal {
     PICA_LIST_TOO_LONG = 1,        /* a list over 65,536 words */
     PICA_WORDS_MISSING = 2,        /* a command needs more words than are left, a lone word included; the padding word counts */
@@ -87,7 +93,8 @@ enum pica_refusal {
     PICA_NO_ROOM = 10,             /* the space is shorter than the shortest list */
     PICA_DEPTH_ABOVE_LARGEST = 12, /* a depth above 65,535 for depth format 0, above 16,777,215 for any other */
     PICA_CODE_WITHOUT_NAME = 13,   /* a register holds a code that has no name */
-    PICA_NOT_BUILT = 14            /* E0h, 100h or 117h asks for what is not built */
+    PICA_NOT_BUILT = 14,           /* E0h, 100h or 117h asks for what is not built */
+    PICA_NO_ROOM_FOR_WRITES = 22   /* the buffers have fewer places than the list has writes */
 };
 
 /* What became of a fragment. */
@@ -129,6 +136,25 @@ uint64_t pica_read(uint32_t *cells, size_t cells_length, uint32_t *fog, size_t f
  */
 uint64_t pica_write(uint32_t *cells, size_t cells_length, uint32_t *fog, size_t fog_length, uint32_t *light, size_t light_length,
                     uint32_t id, uint32_t mask, uint32_t value);
+
+/*
+ * Gives the writes of a list of command words, in their order: write k sets the bytes masks[k] of register ids[k] to those of
+ * values[k]. They are what pica_pack takes, so that this call and that one forecast how short a captured list can be.
+ *
+ * Answers the number of writes.
+ * Refuses, in this order:
+ *   7   at 0
+ *   1   at 0
+ *   then for each command in turn 2, or 3, 4 or 5, as pica_read does
+ *   22  with the places needed as place. So a call with NULL and 0 for all three buffers asks for the number of writes; a list
+ *       without writes, which is the empty one, is answered with 0. No list has more writes than words, so that buffers as long as
+ *       the list are long enough.
+ * list: only read.
+ * ids, masks, values: the writes stand at their start, and past the writes they keep their contents; on a refusal they are as they
+ * were.
+ */
+uint64_t pica_writes(const uint32_t *list, size_t list_length, uint32_t *ids, size_t ids_length, uint32_t *masks,
+                     size_t masks_length, uint32_t *values, size_t values_length);
 
 /*
  * Packs a run of writes into the shortest list that says it: write k sets the bytes masks[k] of register ids[k] to those of

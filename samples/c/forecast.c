@@ -1,5 +1,5 @@
 /*
- * Judges a captured list, shows what it sets, forecasts the length of a packed run, and draws one fragment with the state that
+ * Judges a captured list, shows what it sets, forecasts how short it could be, and draws one fragment with the state that
  * the list leaves.
  *
  *     forecast FILE        FILE holds the list's words, four bytes a word, the lowest byte first
@@ -10,9 +10,7 @@
 #include <string.h>
 
 #include "pica.h"
-
-/* A field that is added to the header's list, or lost from it, would shift every name behind it. */
-typedef char names_every_field[PICA_FIELD_COUNT == PICA_FIELDS_LENGTH ? 1 : -1];
+#include "pica_names.h"
 
 struct state {
     uint32_t cells[PICA_CELLS_LENGTH];
@@ -26,30 +24,15 @@ struct state {
 /* One word more than the limit, so that a list that is too long is refused as such and not cut. */
 #define MOST_LOADED (PICA_LIST_LENGTH_MOST + 1)
 
-static const char *name_of(uint32_t number) {
-    switch (number) {
-    case PICA_LIST_TOO_LONG: return "list too long";
-    case PICA_WORDS_MISSING: return "words missing";
-    case PICA_ID_ABOVE_2FF: return "id above 2FF";
-    case PICA_JUMP_REGISTER: return "jump register";
-    case PICA_PORT_MASK: return "port mask";
-    case PICA_BUFFER_LENGTH: return "buffer length";
-    case PICA_LENGTHS_DIFFER: return "lengths differ";
-    case PICA_TOO_MANY_WRITES: return "too many writes";
-    case PICA_MASK_ABOVE_15: return "mask above 15";
-    case PICA_NO_ROOM: return "no room";
-    case PICA_DEPTH_ABOVE_LARGEST: return "depth above largest";
-    case PICA_CODE_WITHOUT_NAME: return "code without name";
-    case PICA_NOT_BUILT: return "not built";
-    default: return "unknown";
-    }
-}
+/* A later library may refuse by a number that this header has no name for. */
+static const char *named(const char *name) { return name ? name : "(no name)"; }
 
 /* 1 where the call was answered; else says why not. */
 static int answered(const char *what, uint64_t answer) {
     if (pica_number(answer) == 0) return 1;
     uint32_t number = pica_number(answer);
-    printf("%s: refused, %s (%u) at %u\n", what, name_of(number), (unsigned)number, (unsigned)pica_value(answer));
+    printf("%s: refused with %u at %u: %s\n", what, (unsigned)number, (unsigned)pica_value(answer), named(pica_refusal_text(number)));
+    printf("  what to do: %s\n", named(pica_refusal_advice(number)));
     return 0;
 }
 
@@ -78,52 +61,47 @@ static int show_read(struct state *s, const uint32_t *list, size_t length) {
     return 1;
 }
 
+/* A field's number, and its name where it is a code with one. */
 static int show_fields(const struct state *s) {
-    static const struct {
-        const char *name;
-        enum pica_field field;
-    } shown[] = {
-        {"culling", PICA_FIELD_CULLING},
-        {"viewport width", PICA_FIELD_VIEWPORT_WIDTH},
-        {"viewport xy x", PICA_FIELD_VIEWPORT_XY_X},
-        {"depth map enable", PICA_FIELD_DEPTHMAP_ENABLE},
-        {"stage 0 source rgb0", PICA_FIELD_STAGE0_SOURCE_RGB0},
-        {"stage 0 combiner rgb", PICA_FIELD_STAGE0_COMBINER_RGB},
-        {"stage 5 source rgb0", PICA_FIELD_STAGE5_SOURCE_RGB0},
-        {"fog colour red", PICA_FIELD_FOG_COLOUR_RED},
-        {"fog index", PICA_FIELD_FOG_INDEX},
-        {"buffer colour alpha", PICA_FIELD_BUFFER_COLOUR_ALPHA},
-        {"logic operation", PICA_FIELD_BLENDING_LOGIC_OP},
-        {"alpha test function", PICA_FIELD_TESTS_ALPHA_FUNCTION},
-        {"alpha test reference", PICA_FIELD_TESTS_ALPHA_REFERENCE},
-        {"depth test function", PICA_FIELD_TESTS_DEPTH_FUNCTION},
-        {"depth format", PICA_FIELD_BUFFERS_DEPTH_FORMAT},
-        {"light port index", PICA_FIELD_LIGHT_PORT_INDEX},
+    static const enum pica_field shown[] = {
+        PICA_FIELD_CULLING,               PICA_FIELD_VIEWPORT_WIDTH,       PICA_FIELD_VIEWPORT_XY_X,
+        PICA_FIELD_DEPTHMAP_ENABLE,       PICA_FIELD_STAGE0_SOURCE_RGB0,   PICA_FIELD_STAGE0_COMBINER_RGB,
+        PICA_FIELD_STAGE5_SOURCE_RGB0,    PICA_FIELD_FOG_COLOUR_RED,       PICA_FIELD_FOG_INDEX,
+        PICA_FIELD_BUFFER_COLOUR_ALPHA,   PICA_FIELD_BLENDING_LOGIC_OP,    PICA_FIELD_TESTS_ALPHA_FUNCTION,
+        PICA_FIELD_TESTS_ALPHA_REFERENCE, PICA_FIELD_TESTS_DEPTH_FUNCTION, PICA_FIELD_BUFFERS_DEPTH_FORMAT,
+        PICA_FIELD_LIGHT_PORT_INDEX,
     };
     uint32_t fields[PICA_FIELDS_LENGTH];
     if (!answered("decode", pica_decode(LENT(s), fields))) return 0;
-    /* The signed fields come in two's complement, and no unsigned one that is shown is too large for an int. */
-    for (size_t k = 0; k < sizeof shown / sizeof *shown; k++) printf("  %s %d\n", shown[k].name, (int)(int32_t)fields[shown[k].field]);
+    for (size_t k = 0; k < sizeof shown / sizeof *shown; k++) {
+        uint32_t value = fields[shown[k]];
+        const char *code = pica_code_name(shown[k], value);
+        /* The signed fields come in two's complement, and no unsigned one that is shown is too large for an int. */
+        printf("  %s %d%s%s\n", named(pica_field_name(shown[k])), (int)(int32_t)value, code ? ", " : "", code ? code : "");
+    }
     printf("  fog entry 127 %u\n", (unsigned)s->fog[127]);
     printf("  light table 0, entry 128 %u\n", (unsigned)s->light[128]);
     return 1;
 }
 
 /*
- * A run that no packer gets right who takes the longest command first: the second write must open the rising one. The first call
- * lends no space and asks for the length; the second packs into just so many words.
+ * How short the list could be: its writes are packed into the shortest list that says them. The first packing lends no space
+ * and asks for the length, which the refusal's place tells; the second has just so many words. No list has more writes than
+ * words.
  */
-static int show_packing(void) {
-    static const uint32_t ids[] = {0x41, 0x41, 0x42, 0x43}, masks[] = {15, 15, 15, 15}, values[] = {1, 2, 3, 4};
-    uint32_t space[8];
-    uint64_t answer = pica_pack(ids, 4, masks, 4, values, 4, NULL, 0);
-    (void)answered("pack without space", answer);
-    if (pica_number(answer) != PICA_NO_ROOM || pica_value(answer) > 8) return 0;
-    answer = pica_pack(ids, 4, masks, 4, values, 4, space, pica_value(answer));
+static int show_forecast(const uint32_t *list, size_t length) {
+    static uint32_t ids[MOST_LOADED], masks[MOST_LOADED], values[MOST_LOADED], space[2 * PICA_RUN_LENGTH_MOST];
+    uint64_t answer = pica_writes(list, length, ids, length, masks, length, values, length);
+    if (!answered("writes", answer)) return 0;
+    uint32_t writes = pica_value(answer);
+    for (uint32_t k = 0; k < writes && k < 3; k++)
+        printf("write %u: %s (%03X), mask %X, value %08X\n", (unsigned)k, named(pica_register_name(ids[k])), (unsigned)ids[k],
+               (unsigned)masks[k], (unsigned)values[k]);
+    answer = pica_pack(ids, writes, masks, writes, values, writes, NULL, 0);
+    answer = pica_pack(ids, writes, masks, writes, values, writes, space, pica_number(answer) == PICA_NO_ROOM ? pica_value(answer) : 0);
     if (!answered("pack", answer)) return 0;
-    printf("pack: 4 writes in %u words:", (unsigned)pica_value(answer));
-    for (uint32_t k = 0; k < pica_value(answer); k++) printf(" %08X", (unsigned)space[k]);
-    printf("\n");
+    printf("forecast: %u writes, %u words captured, %u words at the shortest\n", (unsigned)writes, (unsigned)length,
+           (unsigned)pica_value(answer));
     return 1;
 }
 
@@ -148,11 +126,14 @@ static int show_fragment(const struct state *s) {
     return 1;
 }
 
-/* An empty run, as an empty std::vector hands it over: four times null with length 0. Its list is the empty one. */
+/* An empty run, as an empty std::vector hands it over: null with length 0. Its list is the empty one, and has no writes. */
 static int show_empty(struct state *s) {
     uint64_t packed = pica_pack(NULL, 0, NULL, 0, NULL, 0, NULL, 0), read = pica_read(LENT(s), NULL, 0);
+    uint64_t writes = pica_writes(NULL, 0, NULL, 0, NULL, 0, NULL, 0);
     if (!answered("pack an empty run", packed) || !answered("read an empty list", read)) return 0;
-    printf("empty: %u words, %u writes\n", (unsigned)pica_value(packed), (unsigned)pica_value(read));
+    if (!answered("writes of an empty list", writes)) return 0;
+    printf("empty: %u words, %u writes, %u of them read\n", (unsigned)pica_value(packed), (unsigned)pica_value(writes),
+           (unsigned)pica_value(read));
     return 1;
 }
 
@@ -168,5 +149,6 @@ int main(int argc, char **argv) {
         fprintf(stderr, "forecast: %s is no list of words\n", argv[1]);
         return 2;
     }
-    return show_read(&s, list, (size_t)length) && show_fields(&s) && show_packing() && show_empty(&s) && show_fragment(&s) ? 0 : 1;
+    size_t words = (size_t)length;
+    return show_read(&s, list, words) && show_fields(&s) && show_forecast(list, words) && show_empty(&s) && show_fragment(&s) ? 0 : 1;
 }

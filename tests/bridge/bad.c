@@ -18,6 +18,13 @@ uint64_t pica_write(uint32_t *cells, size_t n, uint32_t *fog, size_t m, uint32_t
     return 0;
 }
 
+uint64_t pica_writes(const uint32_t *list, size_t length, uint32_t *ids, size_t n, uint32_t *masks, size_t m, uint32_t *values, size_t k) {
+    UNUSED(list), UNUSED(length), UNUSED(ids), UNUSED(n), UNUSED(masks), UNUSED(m), UNUSED(values), UNUSED(k);
+    if (BAD == 5) values[k] = 1;
+    if (BAD == 6) *(uint32_t *)list ^= 1;
+    return 0;
+}
+
 uint64_t pica_pack(const uint32_t *cells, size_t n, const uint32_t *fog, size_t m, const uint32_t *light, size_t k, uint32_t *space,
                    size_t room) {
     STATE_UNUSED, UNUSED(space), UNUSED(room);

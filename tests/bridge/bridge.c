@@ -94,6 +94,10 @@ uint64_t pica_write(uint32_t *cells, size_t n, uint32_t *fog, size_t m, uint32_t
     return call(WRITE, (struct buffer[LENT]){STATE(1)}, (uint32_t[NUMBERS]){id, mask, value});
 }
 
+uint64_t pica_writes(const uint32_t *list, size_t length, uint32_t *ids, size_t n, uint32_t *masks, size_t m, uint32_t *values, size_t k) {
+    return call(WRITES, (struct buffer[LENT]){{(uint32_t *)list, length, 0}, {ids, n, 1}, {masks, m, 1}, {values, k, 1}}, NULL);
+}
+
 uint64_t pica_pack(const uint32_t *ids, size_t n, const uint32_t *masks, size_t m, const uint32_t *values, size_t k, uint32_t *space,
                    size_t room) {
     struct buffer run[LENT] = {{(uint32_t *)ids, n, 0}, {(uint32_t *)masks, m, 0}, {(uint32_t *)values, k, 0}, {space, room, 1}};

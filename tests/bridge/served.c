@@ -33,6 +33,7 @@ void *memcpy(void *restrict to, const void *restrict from, size_t n) {
     return to;
 }
 
+/* Three buffers, of a state or of a run; for the writes of a list the list and two of them. */
 #define STATE w[0], l[0].length, w[1], l[1].length, w[2], l[2].length
 
 static uint64_t answer(struct call *c) {
@@ -43,6 +44,7 @@ static uint64_t answer(struct call *c) {
     switch (c->which) {
     case READ: return pica_read(STATE, w[3], l[3].length);
     case WRITE: return pica_write(STATE, c->numbers[0], c->numbers[1], c->numbers[2]);
+    case WRITES: return pica_writes(STATE, w[3], l[3].length);
     case PACK: return pica_pack(STATE, w[3], l[3].length);
     case DECODE: return pica_decode(STATE, w[3]);
     default: return pica_fragment(STATE, w[3], w[4]);

@@ -8,7 +8,7 @@
 #include <stdint.h>
 
 enum { LENT = 5, NUMBERS = 3, ROOM = 1 << 20 };
-enum which { READ, WRITE, PACK, DECODE, FRAGMENT };
+enum which { READ, WRITE, WRITES, PACK, DECODE, FRAGMENT };
 
 struct lent {
     uint64_t at, length;

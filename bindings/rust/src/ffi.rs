@@ -1,4 +1,4 @@
-//! The five C functions, and the only `unsafe` code of the crate.
+//! The six C functions, and the only `unsafe` code of the crate.
 //!
 //! The C functions ask of their caller that each pointer is aligned, that its length is true, and that a buffer that is written
 //! to overlaps no other. Below, every buffer is a Rust reference, which is aligned and has its true length. A buffer that is
@@ -32,6 +32,16 @@ mod c {
             id: u32,
             mask: u32,
             value: u32,
+        ) -> u64;
+        pub fn pica_writes(
+            list: *const u32,
+            list_length: usize,
+            ids: *mut u32,
+            ids_length: usize,
+            masks: *mut u32,
+            masks_length: usize,
+            values: *mut u32,
+            values_length: usize,
         ) -> u64;
         pub fn pica_pack(
             ids: *const u32,
@@ -116,6 +126,28 @@ pub fn write(
             id,
             mask,
             value,
+        )
+    })
+}
+
+pub fn writes(
+    list: &[u32],
+    ids: &mut [u32],
+    masks: &mut [u32],
+    values: &mut [u32],
+) -> Result<u32, Refusal> {
+    // SAFETY: a shared slice that is only read, and three `&mut` slices, which overlap neither it nor each other, each passed with
+    // its own length.
+    apart(unsafe {
+        c::pica_writes(
+            list.as_ptr(),
+            list.len(),
+            ids.as_mut_ptr(),
+            ids.len(),
+            masks.as_mut_ptr(),
+            masks.len(),
+            values.as_mut_ptr(),
+            values.len(),
         )
     })
 }

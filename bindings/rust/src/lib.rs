@@ -1,8 +1,9 @@
 //! Command lists of the PICA200, the graphics chip of an old handheld, by the proved library Ilgadeuk.
 //!
 //! A list of command words is read into a [`State`], a register file and two lookup tables, or refused by a number and a
-//! place. A state is decoded into [`Settings`] and tells what one fragment leaves in the framebuffer. The other way round,
-//! [`pack`] turns a run of register writes into the shortest list that says it. `include/pica.h` tells how a list is laid out.
+//! place. A state is decoded into [`Settings`] and tells what one fragment leaves in the framebuffer. A list's own writes are what
+//! [`writes`] gives, and the other way round [`pack`] turns a run of writes into the shortest list that says it. `include/pica.h`
+//! tells how a list is laid out.
 //!
 //! Any words and any numbers may come in: every call answers or gives a [`Refusal`], and a refused call changes nothing.
 //!
@@ -17,7 +18,7 @@
 //! ```
 //!
 //! Nothing in this crate's face is `unsafe`, and the library behind it allocates nothing and keeps nothing between calls. The
-//! crate needs no `std`: of `alloc` it takes a state's boxes and the list that [`packed`] gives.
+//! crate needs no `std`: of `alloc` it takes a state's boxes, the list that [`packed`] gives and the run that [`writes_of`] gives.
 
 #![no_std]
 #![deny(missing_docs)]
@@ -28,10 +29,12 @@ extern crate alloc;
 mod ffi;
 mod flat;
 mod fragment;
+pub mod names;
 mod pack;
 mod refusal;
 mod settings;
 mod state;
+mod writes;
 
 pub use flat::FIELDS_LENGTH;
 pub use fragment::{Given, Outcome, Stored, Verdict};
@@ -39,3 +42,4 @@ pub use pack::{pack, packed, Write, RUN_LENGTH_MOST};
 pub use refusal::Refusal;
 pub use settings::*;
 pub use state::{State, CELLS_LENGTH, FOG_LENGTH, LIGHT_LENGTH, LIST_LENGTH_MOST};
+pub use writes::{writes, writes_of};

@@ -2,6 +2,8 @@
 
 use core::{error::Error, fmt};
 
+use crate::names;
+
 /// Why a call was refused: a number, and a place whose meaning depends on the number. A place that means nothing is 0.
 ///
 /// ```
@@ -48,26 +50,13 @@ impl Refusal {
     pub const CODE_WITHOUT_NAME: u32 = 13;
     /// Not built; the place is the lowest id of a register that asks for it.
     pub const NOT_BUILT: u32 = 14;
+    /// The buffers have fewer places than the list has writes; the place is the places needed.
+    pub const NO_ROOM_FOR_WRITES: u32 = 22;
 
     /// What was wrong, without the place.
     #[must_use]
     pub fn reason(&self) -> &'static str {
-        match self.number {
-            Self::LIST_TOO_LONG => "list over 65,536 words",
-            Self::WORDS_MISSING => "a command needs more words than are left",
-            Self::ID_ABOVE_2FF => "id above 2FFh",
-            Self::JUMP_REGISTER => "id 23Ch or 23Dh",
-            Self::PORT_MASK => "port data, mask not Fh",
-            Self::BUFFER_LENGTH => "a state buffer of the wrong length",
-            Self::LENGTHS_DIFFER => "ids, masks, values differ in length",
-            Self::TOO_MANY_WRITES => "over 4,096 writes",
-            Self::MASK_ABOVE_15 => "mask above 15",
-            Self::NO_ROOM => "space shorter than the shortest list",
-            Self::DEPTH_ABOVE_LARGEST => "depth above the format's largest",
-            Self::CODE_WITHOUT_NAME => "code without a name",
-            Self::NOT_BUILT => "not built",
-            _ => "no number of the table",
-        }
+        names::refusal_reason(self.number).unwrap_or("no number of the table")
     }
 }
 
@@ -83,6 +72,7 @@ impl fmt::Display for Refusal {
             }
             Self::MASK_ABOVE_15 => write!(f, ", write {place}"),
             Self::NO_ROOM => write!(f, ", {place} words needed"),
+            Self::NO_ROOM_FOR_WRITES => write!(f, ", {place} places needed"),
             Self::DEPTH_ABOVE_LARGEST if place == 0 => f.write_str(", incoming"),
             Self::DEPTH_ABOVE_LARGEST => f.write_str(", stored"),
             Self::CODE_WITHOUT_NAME | Self::NOT_BUILT => write!(f, ", register {place:03X}h"),

@@ -4,10 +4,14 @@ use pica::{
     CELLS_LENGTH, FIELDS_LENGTH, FOG_LENGTH, LIGHT_LENGTH, LIST_LENGTH_MOST, RUN_LENGTH_MOST,
 };
 
+fn header() -> String {
+    let path = concat!(env!("CARGO_MANIFEST_DIR"), "/../../include/pica.h");
+    std::fs::read_to_string(path).expect("the header stands beside the crate")
+}
+
 /// What the header defines a name as.
 fn defined(name: &str) -> usize {
-    let header = concat!(env!("CARGO_MANIFEST_DIR"), "/../../include/pica.h");
-    let text = std::fs::read_to_string(header).expect("the header stands beside the crate");
+    let text = header();
     let define = format!("#define {name} ");
     let values: Vec<&str> = text
         .lines()
@@ -35,8 +39,9 @@ fn lengths() {
 fn version() {
     let parts = ["MAJOR", "MINOR", "PATCH"].map(|p| defined(&format!("PICA_VERSION_{p}")));
     let [major, minor, patch] = parts;
-    assert_eq!(
-        format!("{major}.{minor}.{patch}"),
-        env!("CARGO_PKG_VERSION")
-    );
+    let version = format!("{major}.{minor}.{patch}");
+    assert_eq!(version, env!("CARGO_PKG_VERSION"));
+    // what the header's first lines say of it
+    let said = format!("This is the header of version {version},");
+    assert_eq!(header().matches(&said).count(), 1);
 }

@@ -9,10 +9,10 @@ use crate::random::Random;
 /// Cases that share one garbage state; each block can be run alone.
 pub const BLOCK: u64 = 250;
 
-const NUMBERS: usize = 15;
+const NUMBERS: usize = 23;
 
-/// The refusals that a whole run has to meet. 11 isn't used.
-const REFUSALS: [usize; 13] = [1, 2, 3, 4, 5, 6, 7, 8, 9, 10, 12, 13, 14];
+/// The refusals that a whole run has to meet. 11 and 15 to 21 aren't used.
+const REFUSALS: [usize; 14] = [1, 2, 3, 4, 5, 6, 7, 8, 9, 10, 12, 13, 14, 22];
 
 #[derive(Clone, Default)]
 pub struct Tally {
@@ -99,6 +99,11 @@ fn call(machine: &Machine, case: &Case, memory: &mut Memory) -> u64 {
             (machine.read)(state, list)
         }
         Kind::Write => (machine.write)(state, case.write),
+        Kind::Writes => {
+            let lengths = [case.lent[0], case.lent[1], case.lent[2], case.lent[3]];
+            let [list, ids, masks, values] = parts(lent, lengths);
+            (machine.writes)(list, [ids, masks, values])
+        }
         Kind::Pack => {
             let lengths = [case.lent[0], case.lent[1], case.lent[2], case.lent[3]];
             let [ids, masks, values, space] = parts(lent, lengths);
@@ -136,6 +141,7 @@ fn word_text(case: &Case, library: &Memory, model: &Memory) -> Option<String> {
     let names: &[&str] = match case.kind {
         Kind::Read => &["list"],
         Kind::Write => &[],
+        Kind::Writes => &["list", "ids", "masks", "values"],
         Kind::Pack => &["ids", "masks", "values", "space"],
         Kind::Decode => &["fields"],
         Kind::Fragment => &["given", "stored"],
@@ -168,7 +174,7 @@ fn arguments_text(case: &Case, memory: &mut Memory) -> String {
     let mut text = format!("state lengths {:?}", case.state);
     match case.kind {
         Kind::Write => text += &format!(", id, mask, value {:X?}", case.write),
-        Kind::Read | Kind::Pack => {}
+        Kind::Read | Kind::Writes | Kind::Pack => {}
         Kind::Decode | Kind::Fragment => {
             let cells = memory.cells();
             let held = HELD.map(|(id, _)| format!("{id:X}={:08X}", cells[id as usize]));

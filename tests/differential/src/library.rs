@@ -25,6 +25,16 @@ extern "C" {
         mask: u32,
         value: u32,
     ) -> u64;
+    fn pica_writes(
+        list: *const u32,
+        list_length: usize,
+        ids: *mut u32,
+        ids_length: usize,
+        masks: *mut u32,
+        masks_length: usize,
+        values: *mut u32,
+        values_length: usize,
+    ) -> u64;
     fn pica_pack(
         ids: *const u32,
         ids_length: usize,
@@ -99,6 +109,21 @@ fn write([cells, fog, light]: Lent, [id, mask, value]: [u32; 3]) -> u64 {
     }
 }
 
+fn writes(list: &mut [u32], [ids, masks, values]: Lent) -> u64 {
+    unsafe {
+        pica_writes(
+            start(list),
+            list.len(),
+            start(ids),
+            ids.len(),
+            start(masks),
+            masks.len(),
+            start(values),
+            values.len(),
+        )
+    }
+}
+
 fn pack([ids, masks, values]: Lent, space: &mut [u32]) -> u64 {
     unsafe {
         pica_pack(
@@ -146,6 +171,7 @@ fn fragment([cells, fog, light]: Lent, given: &mut [u32; 11], stored: &mut [u32;
 pub const LIBRARY: Machine = Machine {
     read,
     write,
+    writes,
     pack,
     decode,
     fragment,

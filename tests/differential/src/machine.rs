@@ -1,8 +1,9 @@
-//! The five calls, of the library or of a model, behind one form.
+//! The six calls, of the library or of a model, behind one form.
 
 use crate::model;
 
-/// The lent state: cells, fog entries, light entries.
+/// Three lent buffers: a state's cells, fog entries and light entries, or a
+/// run's ids, masks and values.
 pub type Lent<'a> = [&'a mut [u32]; 3];
 
 /// Buffers that a call only reads are lent mutably here as well: a library
@@ -12,6 +13,7 @@ pub type Lent<'a> = [&'a mut [u32]; 3];
 pub struct Machine {
     pub read: fn(Lent, &mut [u32]) -> u64,
     pub write: fn(Lent, [u32; 3]) -> u64,
+    pub writes: fn(&mut [u32], Lent) -> u64,
     pub pack: fn(Lent, &mut [u32]) -> u64,
     pub decode: fn(Lent, &mut [u32; model::FIELD_COUNT]) -> u64,
     pub fragment: fn(Lent, &mut [u32; 11], &mut [u32; 3]) -> u64,
@@ -24,6 +26,7 @@ impl Machine {
             write: |[cells, fog, light], [id, mask, value]| {
                 model::write::<F>(cells, fog, light, id, mask, value)
             },
+            writes: |list, [ids, masks, values]| model::writes::<F>(list, ids, masks, values),
             pack: |[ids, masks, values], space| model::pack::<F>(ids, masks, values, space),
             decode: |[cells, fog, light], fields| model::decode::<F>(cells, fog, light, fields),
             fragment: |[cells, fog, light], given, stored| {

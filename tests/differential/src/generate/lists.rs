@@ -183,7 +183,7 @@ fn long_list(random: &mut Random) -> Vec<u32> {
     list
 }
 
-fn list(random: &mut Random) -> Vec<u32> {
+pub fn list(random: &mut Random) -> Vec<u32> {
     if random.chance(1, 2000) {
         return long_list(random);
     }

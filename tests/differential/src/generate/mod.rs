@@ -2,6 +2,7 @@
 //! reason, and every choice leans on the borders of the document's rules.
 
 mod lists;
+mod places;
 mod states;
 mod words;
 mod writes;
@@ -14,14 +15,16 @@ use crate::random::Random;
 pub enum Kind {
     Read,
     Write,
+    Writes,
     Pack,
     Decode,
     Fragment,
 }
 
-pub const KINDS: [(Kind, &str); 5] = [
+pub const KINDS: [(Kind, &str); 6] = [
     (Kind::Read, "read"),
     (Kind::Write, "write"),
+    (Kind::Writes, "writes"),
     (Kind::Pack, "pack"),
     (Kind::Decode, "decode"),
     (Kind::Fragment, "fragment"),
@@ -43,11 +46,12 @@ pub fn fresh_state(random: &mut Random, memory: &mut Memory) {
 }
 
 pub fn next_case(random: &mut Random, memory: &mut Memory) -> Case {
-    let kind = match random.below(20) {
+    let kind = match random.below(23) {
         0..=7 => Kind::Read,
         8..=10 => Kind::Write,
         11..=13 => Kind::Pack,
         14..=15 => Kind::Decode,
+        16..=18 => Kind::Writes,
         _ => Kind::Fragment,
     };
     let mut case = Case {
@@ -73,6 +77,7 @@ fn lend(random: &mut Random, kind: Kind, memory: &mut Memory) -> Vec<usize> {
             memory.lend(random, &[]);
             Vec::new()
         }
+        Kind::Writes => places::lend_list_and_places(random, memory),
         Kind::Pack => writes::lend_writes(random, memory),
         Kind::Decode => {
             states::set_decodable(random, memory.cells());

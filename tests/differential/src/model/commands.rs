@@ -19,7 +19,7 @@ pub struct Write {
     pub value: u32,
 }
 
-fn header<const F: u32>(word: u32) -> Header {
+pub fn header<const F: u32>(word: u32) -> Header {
     Header {
         id: bits(word, 0, if F == ID_12_BITS { 11 } else { 15 }),
         mask: bits(word, 16, 19),
@@ -28,7 +28,7 @@ fn header<const F: u32>(word: u32) -> Header {
     }
 }
 
-fn words_needed<const F: u32>(extra: u32) -> usize {
+pub fn words_needed<const F: u32>(extra: u32) -> usize {
     let words = 2 + extra as usize;
     if F == PADDING_FORGOTTEN {
         words

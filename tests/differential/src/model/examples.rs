@@ -150,3 +150,42 @@ fn packing() {
     assert_eq!(packed(&[0x41; 257]).len(), 260);
     assert!(packed(&[]).is_empty());
 }
+
+/// What a call leaves of three buffers of these lengths, filled with 9.
+fn listed(list: &[u32], lengths: [usize; 3]) -> (u64, [Vec<u32>; 3]) {
+    let [mut ids, mut masks, mut values] = lengths.map(|length| vec![9; length]);
+    let answer = writes::<NONE>(list, &mut ids, &mut masks, &mut values);
+    (answer, [ids, masks, values])
+}
+
+#[test]
+fn the_writes_of_a_list() {
+    let list = [0xAAAA_AAAA, 0x802F_011C, 0xBBBB_BBBB, 0xCCCC_CCCC];
+    let ids = vec![0x11C, 0x11D, 0x11E, 9];
+    let masks = vec![15, 15, 15, 9];
+    let values = vec![0xAAAA_AAAA, 0xBBBB_BBBB, 0xCCCC_CCCC, 9];
+    assert_eq!(listed(&list, [4; 3]), (3, [ids, masks, values]));
+    // equal ids, a padding word, and another command with a mask of its own
+    let list = [1, 0x001F_0041, 2, 0xFFFF_FFFF, 3, 0x0003_0042];
+    let (ids, masks) = (vec![0x41, 0x41, 0x42], vec![15, 15, 3]);
+    assert_eq!(listed(&list, [3; 3]), (3, [ids, masks, vec![1, 2, 3]]));
+    assert_eq!(listed(&[], [0; 3]).0, 0);
+}
+
+#[test]
+fn the_writes_of_a_list_refused() {
+    let list = [1, 0x000F_0041, 2, 0x000F_023C];
+    let long = vec![0; 65_537];
+    for (list, lengths, answer) in [
+        (&list[..2], [0; 3], refusal(22, 1)),
+        (&list[..2], [1, 1, 0], refusal(7, 0)),
+        (&list, [0; 3], refusal(4, 2)),
+        (&list, [2; 3], refusal(4, 2)),
+        (&list[..3], [0; 3], refusal(2, 2)),
+        (&long, [0; 3], refusal(1, 0)),
+        (&long, [0, 0, 1], refusal(7, 0)),
+    ] {
+        let left = lengths.map(|length| vec![9; length]);
+        assert_eq!(listed(list, lengths), (answer, left));
+    }
+}

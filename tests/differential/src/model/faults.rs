@@ -173,4 +173,25 @@ faults! {
     133 UNBUILT_PLACE "refusal 14's place is the highest id";
     134 MASK_9_FIRST "packing: 9 tested for all writes first";
     135 STENCIL_REFERENCE_SIGNED "stencil reference compared as signed";
+
+    // The writes of a list
+    136 WRITES_ORDER_1_7 "writes: 1 before 7";
+    137 WRITES_VALUES_UNTESTED "writes: the values' length not compared";
+    138 WRITES_ORDER_22_LIST "writes: 22 before the commands' refusals";
+    139 WRITES_ROOM_ONE_OFF "writes: exact room refused";
+    140 WRITES_PLACE_ONE_OFF "writes: 22's place one too low";
+    141 WRITES_PLACE_IS_ROOM "writes: 22's place is the buffers' length";
+    142 WRITES_PLACE_IS_LACK "writes: 22's place is the places that lack";
+    143 WRITES_PARTIAL "writes: those that fit put without room for all";
+    144 WRITES_BEFORE_REFUSAL "writes: those before a refused command put";
+    145 WRITES_CLEARED "writes: places past them cleared";
+    146 WRITES_NEXT_TOUCHED "writes: the place past the last one touched";
+    147 WRITES_MASK_OF_NEXT "writes: mask of the next command";
+    148 WRITES_FIRST_ID "writes: all ids are the command's first";
+    149 WRITES_RISE_ONE_LATE "writes: ids rise one parameter late";
+    150 WRITES_HEADER_AS_VALUE "writes: the header taken for the second value";
+    151 WRITES_PADDING_PUT "writes: the padding word put as well";
+    152 WRITES_MASK_0_LEFT_OUT "writes: those with mask 0 left out";
+    153 WRITES_ANSWER_COMMANDS "writes: answer counts commands";
+    154 WRITES_AT_MOST_4096 "writes: over 4,096 of them refused with 8";
 }

@@ -7,6 +7,7 @@ mod commands;
 mod decoded;
 #[cfg(test)]
 mod examples;
+mod expansion;
 pub mod faults;
 mod fragment;
 mod held;
@@ -17,6 +18,7 @@ mod reading;
 
 pub use commands::allowed;
 pub use decoded::{decode, FIELD_COUNT};
+pub use expansion::{count_writes, writes};
 pub use fragment::fragment;
 pub use held::HELD;
 pub use packing::{pack, shortest_list};

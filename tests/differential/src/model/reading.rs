@@ -25,7 +25,7 @@ fn apply<const F: u32>(cells: &mut [u32], fog: &mut [u32], light: &mut [u32], wr
     }
 }
 
-fn list_length<const F: u32>(list: &[u32]) -> Result<(), Refusal> {
+pub fn list_length<const F: u32>(list: &[u32]) -> Result<(), Refusal> {
     let longest = match F {
         LIST_65535 => LONGEST_LIST - 1,
         LIST_65537 => LONGEST_LIST + 1,

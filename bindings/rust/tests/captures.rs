@@ -1,0 +1,91 @@
+//! What examples/README.md says of the captures: each row of its table against the file.
+
+use std::{collections::BTreeMap, fs, path::PathBuf};
+
+use pica::{pack, writes_of, Refusal, Write, RUN_LENGTH_MOST};
+
+fn examples() -> PathBuf {
+    PathBuf::from(concat!(env!("CARGO_MANIFEST_DIR"), "/../../examples"))
+}
+
+/// A file's words.
+fn list(name: &str) -> Vec<u32> {
+    let bytes = fs::read(examples().join("captures").join(name)).expect("the capture is there");
+    assert_eq!(bytes.len() % 4, 0, "{name}");
+    let word = |b: &[u8]| u32::from_le_bytes([b[0], b[1], b[2], b[3]]);
+    bytes.chunks(4).map(word).collect()
+}
+
+/// The words of the shortest list that says a run of at most 4,096 writes: what a call without space names.
+fn shortest(run: &[Write]) -> usize {
+    let part = |of: fn(&Write) -> u32| -> Vec<u32> { run.iter().map(of).collect() };
+    match pack(
+        &part(|w| w.id),
+        &part(|w| w.mask),
+        &part(|w| w.value),
+        &mut [],
+    ) {
+        Err(Refusal {
+            number: Refusal::NO_ROOM,
+            place,
+        }) => place as usize,
+        answer => panic!("no space, and {answer:?}"),
+    }
+}
+
+/// The row's columns behind the file's name and what it is: words, writes, verdict, shortest.
+fn row_of(name: &str) -> [String; 4] {
+    let list = list(name);
+    let words = list.len().to_string();
+    match writes_of(&list) {
+        Err(refusal) => {
+            let verdict = format!("refused {} at {}", refusal.number, refusal.place);
+            [words, "–".to_string(), verdict, "–".to_string()]
+        }
+        Ok(run) => {
+            let parts: Vec<usize> = run.chunks(RUN_LENGTH_MOST).map(shortest).collect();
+            let most: usize = parts.iter().sum();
+            let least = most - 2 * (parts.len() - 1);
+            let shortest = match parts.len() {
+                1 => most.to_string(),
+                _ => format!("{least} to {most}"),
+            };
+            [words, run.len().to_string(), "ok".to_string(), shortest]
+        }
+    }
+}
+
+/// The table's rows by the file's name.
+fn said() -> BTreeMap<String, Vec<String>> {
+    let text = fs::read_to_string(examples().join("README.md")).expect("the page is there");
+    let rows = text
+        .lines()
+        .filter_map(|line| line.strip_prefix("| `captures/"));
+    let cells =
+        |row: &str| -> Vec<String> { row.split('|').map(|c| c.trim().to_string()).collect() };
+    rows.map(cells)
+        .map(|row| (row[0].trim_end_matches('`').to_string(), row[2..6].to_vec()))
+        .collect()
+}
+
+#[test]
+fn the_table_of_the_captures() {
+    let said = said();
+    let mut names: Vec<String> = fs::read_dir(examples().join("captures"))
+        .expect("the folder is there")
+        .map(|file| {
+            file.expect("a file")
+                .file_name()
+                .to_string_lossy()
+                .into_owned()
+        })
+        .collect();
+    names.sort();
+    assert_eq!(
+        said.keys().collect::<Vec<_>>(),
+        names.iter().collect::<Vec<_>>()
+    );
+    for name in names {
+        assert_eq!(said[&name], row_of(&name), "{name}");
+    }
+}

@@ -1,0 +1,136 @@
+//! Files that the command writes: never over one that is there, unless it is told to, and never by halves.
+
+use std::ffi::OsStr;
+use std::fs::{self, File, OpenOptions};
+use std::io::{self, ErrorKind, Write};
+use std::os::unix::fs::FileTypeExt;
+use std::path::{Path, PathBuf};
+
+use crate::input::shown;
+use crate::status::{plain, Failure};
+
+/// A file to be written. It is looked at before the work begins, and written in one go after it.
+pub struct Target {
+    /// What is named, with links followed.
+    path: PathBuf,
+    name: String,
+    force: bool,
+    /// A pipe or a device, which has no contents to lose and is written to as it is.
+    is_stream: bool,
+}
+
+impl Target {
+    /// Refuses what can't be written, while nothing is lost by it.
+    pub fn new(path: &OsStr, force: bool) -> Result<Self, Failure> {
+        let name = shown(path);
+        if path == "-" || path.is_empty() {
+            return Err(Failure::Usage(format!(
+                "`{name}` is no file's name: give one to write to"
+            )));
+        }
+        let path = fs::canonicalize(path).unwrap_or_else(|_| PathBuf::from(path));
+        let mut target = Self {
+            path,
+            name,
+            force,
+            is_stream: false,
+        };
+        match fs::metadata(&target.path) {
+            Ok(seen) if seen.is_dir() => {
+                return Err(target.stopped("is a folder: give a file's name"))
+            }
+            Ok(seen) => {
+                let kind = seen.file_type();
+                target.is_stream = kind.is_fifo() || kind.is_char_device();
+            }
+            Err(_) => {}
+        }
+        if !target.is_stream {
+            target.refuse_what_is_there()?;
+            let (probe, _) = target.beside()?;
+            let _ = fs::remove_file(probe);
+        }
+        Ok(target)
+    }
+
+    pub fn is_same_as(&self, other: &Self) -> bool {
+        self.path == other.path
+    }
+
+    /// Writes it whole, or leaves what was there.
+    pub fn write(&self, bytes: &[u8]) -> Result<(), Failure> {
+        if self.is_stream {
+            let open = OpenOptions::new().write(true).open(&self.path);
+            return open
+                .and_then(|mut file| file.write_all(bytes))
+                .map_err(|error| self.lost(&error));
+        }
+        let (unfinished, mut file) = self.beside()?;
+        let written = file
+            .write_all(bytes)
+            .and_then(|()| settled(&file))
+            .map_err(|error| self.lost(&error));
+        let moved = written.and_then(|()| self.take_over(&unfinished));
+        if moved.is_err() {
+            let _ = fs::remove_file(&unfinished);
+        }
+        moved
+    }
+
+    /// Gives the finished file its name. Where nothing may be overwritten the name is taken first, which fails if somebody else has
+    /// taken it meanwhile.
+    fn take_over(&self, finished: &Path) -> Result<(), Failure> {
+        if !self.force {
+            self.refuse_what_is_there()?;
+            File::create_new(&self.path).map_err(|error| self.lost(&error))?;
+        }
+        fs::rename(finished, &self.path).map_err(|error| self.lost(&error))
+    }
+
+    fn refuse_what_is_there(&self) -> Result<(), Failure> {
+        if self.force || fs::symlink_metadata(&self.path).is_err() {
+            return Ok(());
+        }
+        Err(self.stopped("is there already: give another name, or --force to overwrite it"))
+    }
+
+    /// A new file beside the target.
+    fn beside(&self) -> Result<(PathBuf, File), Failure> {
+        let mut name = self.path.file_name().unwrap_or_default().to_owned();
+        name.push(format!(".unfinished-{}", std::process::id()));
+        let path = self.path.with_file_name(name);
+        match File::create_new(&path) {
+            Ok(file) => Ok((path, file)),
+            Err(error) => Err(self.lost(&error)),
+        }
+    }
+
+    fn lost(&self, error: &io::Error) -> Failure {
+        match error.kind() {
+            ErrorKind::NotFound => self.stopped("can't be written: there is no such folder"),
+            ErrorKind::PermissionDenied => {
+                self.stopped("can't be written: no permission; give another folder")
+            }
+            _ => self.stopped(&format!("can't be written: {}", plain(error))),
+        }
+    }
+
+    fn stopped(&self, what: &str) -> Failure {
+        Failure::Stopped(format!("{} {what}", self.name))
+    }
+}
+
+/// Waits until the bytes are on the disk, because a full one may tell only then. Not every file system can do that.
+fn settled(file: &File) -> io::Result<()> {
+    match file.sync_all() {
+        Err(error)
+            if matches!(
+                error.kind(),
+                ErrorKind::InvalidInput | ErrorKind::Unsupported
+            ) =>
+        {
+            Ok(())
+        }
+        done => done,
+    }
+}

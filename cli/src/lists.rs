@@ -1,0 +1,82 @@
+//! A list that is read and judged: its words and writes, or what is wrong with it.
+
+use pica::{Refusal, Write};
+
+use crate::input::{Entry, Fault, Reason};
+use crate::refusals;
+use crate::standin::writes_of;
+use crate::status::Status;
+
+/// An accepted list.
+pub struct List {
+    pub words: Vec<u32>,
+    pub writes: Vec<Write>,
+}
+
+/// Why there is none.
+pub enum Problem {
+    Refused(Refusal),
+    Unreadable(Reason),
+}
+
+/// Reads and judges.
+pub fn load(entry: &Entry) -> Result<List, Problem> {
+    let words = entry.words().map_err(|fault| match fault {
+        Fault::TooLong => Problem::Refused(Refusal {
+            number: Refusal::LIST_TOO_LONG,
+            place: 0,
+        }),
+        Fault::Unreadable(reason) => Problem::Unreadable(reason),
+    })?;
+    let writes = writes_of(&words).map_err(Problem::Refused)?;
+    Ok(List { words, writes })
+}
+
+impl List {
+    /// What is worth a word beside the verdict. Only what is sure: a write with a mask may still go to a register that isn't held.
+    pub fn remark(&self) -> Option<&'static str> {
+        if self.words.is_empty() {
+            Some("empty")
+        } else if self.words.iter().all(|&word| word == 0) {
+            Some("sets nothing: every word is 0")
+        } else if self.writes.iter().all(|write| write.mask == 0) {
+            Some("sets nothing: every mask is 0")
+        } else {
+            None
+        }
+    }
+}
+
+impl Problem {
+    pub fn status(&self) -> Status {
+        match self {
+            Self::Refused(_) => Status::Refused,
+            Self::Unreadable(_) => Status::Unreadable,
+        }
+    }
+
+    /// The whole of it, on one line.
+    pub fn text(&self) -> String {
+        match self {
+            Self::Unreadable(reason) => format!("unreadable: {}; {}", reason.why, reason.advice),
+            Self::Refused(refusal) => {
+                let number = refusal.number;
+                let (meaning, advice) = (refusals::meaning(number), refusals::advice(number));
+                format!("refused {number}{}: {meaning}; {advice}", place(*refusal))
+            }
+        }
+    }
+}
+
+/// Where in the list; refusal 1 is about the whole.
+fn place(refusal: Refusal) -> String {
+    match byte(refusal) {
+        None => String::new(),
+        Some(byte) => format!(" at word {}, byte {byte} ({byte:X}h)", refusal.place),
+    }
+}
+
+/// The byte at which the command at fault begins.
+pub fn byte(refusal: Refusal) -> Option<u64> {
+    (refusal.number != Refusal::LIST_TOO_LONG).then(|| 4 * u64::from(refusal.place))
+}

@@ -1,0 +1,168 @@
+//! `pica show`: what a list sets, with the documents' names.
+
+mod fields;
+mod mark;
+mod numbers;
+mod tables;
+mod trace;
+mod unheld;
+
+use std::ffi::{OsStr, OsString};
+use std::io::{self, Write};
+
+use pica::names::{code_name, register_name, Field, Kind, FIELDS};
+use pica::{Refusal, State};
+
+use crate::input::{shown, single};
+use crate::lists::{self, List};
+use crate::options::{parse, wrong, Known};
+use crate::output::Output;
+use crate::status::{note, Failure, Outcome, Status};
+use crate::text::grouped;
+use mark::View;
+use trace::Trace;
+
+pub const SUMMARY: &str = "what a list sets, register by register and field by field";
+
+pub const HELP: &str = "\
+Usage: pica show FILE [--from FILE] [--all | --changes] [--entries]
+
+Shows what the list in FILE (- for standard input) sets: each register that it writes, with what is then
+held, and each of the register's fields with its number in hexadecimal, what that stands for (the code's
+name, a float's value, else the number in decimal) and what it was before, where that differs. Then the
+entries of the fog and light tables by ranges, and the registers that are written and not held, with the
+last value written. Names are those of the documents; ids are hexadecimal.
+
+  *            before a field or a range of entries: the list changes it
+  =            the list writes it and leaves it as it was
+  --from FILE  what was before is what this list leaves in a state of zeros; without it all was zero.
+               Several lists joined are one: cat a.bin b.bin | pica show c.bin --from -
+  --all        all fields, and all table entries that aren't zero
+  --changes    only what the list changes
+  --entries    table entries one by one
+
+A list that leaves a code without a name in a register is shown too, and the exit status is then 1.
+
+Examples
+  pica show examples/triangle-state.bin
+  pica show second.bin --from first.bin --changes
+";
+
+const OPTIONS: [Known; 4] = [
+    ("--from", Some("a file")),
+    ("--all", None),
+    ("--changes", None),
+    ("--entries", None),
+];
+
+pub fn run(args: &[OsString], out: &mut Output) -> Outcome {
+    let given = parse("show", args, &OPTIONS)?;
+    let path = given.only_path("show", "the list to show, or -")?;
+    let from = given.value("--from");
+    if path == "-" && from == Some(path) {
+        return Err(wrong(
+            "show",
+            "reads standard input once, as FILE or for --from",
+        ));
+    }
+    let view = View {
+        all: given.has("--all"),
+        changes: given.has("--changes"),
+        entries: given.has("--entries"),
+    };
+    if view.all && view.changes {
+        return Err(wrong("show", "shows --all or --changes, not both"));
+    }
+    match follow(path, from)? {
+        Ok((list, trace)) => {
+            head(path, &list, from, out)?;
+            let status = decoding(&trace.after, out)?;
+            let held = fields::show(&trace, view, out)?;
+            let entries = tables::show(&trace, view, out)?;
+            if !held && !entries {
+                let what = if view.changes { "changed" } else { "set" };
+                writeln!(out, "\nNothing that is held is {what}.")?;
+            }
+            if !view.changes {
+                unheld::show(&trace, out)?;
+            }
+            Ok(status)
+        }
+        Err(status) => Ok(status),
+    }
+}
+
+/// The list and what it does, on what the other one leaves; or the status where one of them is no accepted list.
+fn follow(path: &OsStr, from: Option<&OsStr>) -> Result<Result<(List, Trace), Status>, Failure> {
+    let mut before = State::default();
+    if let Some(from) = from {
+        match loaded(from) {
+            Ok(list) => before.read(&list.words).map_err(stopped)?,
+            Err(status) => return Ok(Err(status)),
+        };
+    }
+    match loaded(path) {
+        Ok(list) => {
+            let trace = Trace::follow(before, &list.writes).map_err(stopped)?;
+            Ok(Ok((list, trace)))
+        }
+        Err(status) => Ok(Err(status)),
+    }
+}
+
+/// The list, or the status where there is none, after its problem has been told.
+fn loaded(path: &OsStr) -> Result<List, Status> {
+    lists::load(&single(path)).map_err(|problem| {
+        note(&format!("{}: {}", shown(path), problem.text()));
+        problem.status()
+    })
+}
+
+/// An accepted list is read, and its writes are applied, without a refusal: that is proved of the library.
+fn stopped(refusal: Refusal) -> Failure {
+    Failure::Stopped(format!(
+        "an accepted list was refused, so the library isn't the one that was proved: {refusal}"
+    ))
+}
+
+fn head(path: &OsStr, list: &List, from: Option<&OsStr>, out: &mut Output) -> io::Result<()> {
+    let writes = grouped(list.writes.len() as u64);
+    let words = grouped(list.words.len() as u64);
+    let was = match from {
+        Some(from) => format!("after {}", shown(from)),
+        None => String::from("after a state of zeros"),
+    };
+    let remark = match list.remark() {
+        Some(remark) => format!(" ({remark})"),
+        None => String::new(),
+    };
+    writeln!(
+        out,
+        "{}: {writes} writes, {words} words, {was}{remark}",
+        shown(path)
+    )
+}
+
+/// Says where a code without a name keeps the state from being decoded. What is shown are then the registers' bits.
+fn decoding(state: &State, out: &mut Output) -> Outcome {
+    let (words, Some(refusal)) = fields::of(state) else {
+        return Ok(Status::Well);
+    };
+    let (number, id) = (refusal.number, refusal.place);
+    let name = register_name(id).unwrap_or_default();
+    let nameless = |(k, field): (usize, &Field)| {
+        field.register == id
+            && matches!(field.kind, Kind::Code(_))
+            && code_name(k, words[k]).is_none()
+    };
+    let why = if FIELDS.iter().enumerate().any(nameless) {
+        "a code without a name"
+    } else {
+        "an alpha mode 6 or 7, which only an RGB mode 7 allows"
+    };
+    writeln!(
+        out,
+        "refused {number}: the state is not decoded, because {id:03X} {name} has {why}"
+    )?;
+    Ok(Status::Refused)
+}

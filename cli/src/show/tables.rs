@@ -1,0 +1,147 @@
+//! The entries of the fog and light tables, by ranges.
+
+use std::io::{self, Write};
+
+use pica::names::{Kind, FIELDS};
+
+use super::mark::{Mark, View};
+use super::numbers::{fog_value, light_value, significant};
+use super::trace::{Trace, TABLES, TABLE_LENGTH};
+use crate::output::Output;
+use crate::text::grouped;
+
+/// Of an entry only these bits count.
+const ENTRY_BITS: u32 = 0xFF_FFFF;
+
+/// One table, before and after the list.
+struct Table<'a> {
+    title: String,
+    before: &'a [u32],
+    after: &'a [u32],
+    /// How often each entry was written.
+    writes: &'a [usize],
+    value: fn(u32) -> f64,
+}
+
+/// Shows the tables of which there is something to show, and tells whether there was one.
+pub fn show(trace: &Trace, view: View, out: &mut Output) -> io::Result<bool> {
+    let fog = Table {
+        title: String::from("Fog table"),
+        before: trace.before.fog(),
+        after: trace.after.fog(),
+        writes: &trace.fog,
+        value: fog_value,
+    };
+    let mut any = fog.show(view, out)?;
+    for number in 0..TABLES {
+        any |= match light(trace, number) {
+            Some(table) => table.show(view, out)?,
+            None if view.changes => false,
+            None => nameless(trace, number, out)?,
+        };
+    }
+    Ok(any)
+}
+
+/// A light table's entries, by its number.
+fn entries(number: usize) -> std::ops::Range<usize> {
+    number * TABLE_LENGTH..(number + 1) * TABLE_LENGTH
+}
+
+/// A light table with a name: the others keep nothing.
+fn light(trace: &Trace, number: usize) -> Option<Table<'_>> {
+    let name = light_name(number)?;
+    Some(Table {
+        title: format!("Light table {number:X}, {name}"),
+        before: trace.before.light().get(entries(number))?,
+        after: trace.after.light().get(entries(number))?,
+        writes: trace.light.get(entries(number))?,
+        value: light_value,
+    })
+}
+
+/// 000's name of a light table, which is that of the code in the light port.
+fn light_name(number: usize) -> Option<&'static str> {
+    let mut fields = FIELDS.iter();
+    let Kind::Code(codes) = fields.find(|field| field.name == "light_port_table")?.kind else {
+        return None;
+    };
+    let code = codes.iter().find(|code| code.0 as usize == number);
+    code.map(|code| code.1)
+}
+
+fn nameless(trace: &Trace, number: usize, out: &mut Output) -> io::Result<bool> {
+    let writes = trace.light[entries(number)].iter().sum();
+    if writes == 0 {
+        return Ok(false);
+    }
+    let writes = counted(writes);
+    writeln!(
+        out,
+        "\nLight table {number:X}, which has no name: {writes}, nothing kept"
+    )?;
+    Ok(true)
+}
+
+fn counted(writes: usize) -> String {
+    let number = grouped(writes as u64);
+    format!("{number} write{}", if writes == 1 { "" } else { "s" })
+}
+
+impl Table<'_> {
+    fn show(&self, view: View, out: &mut Output) -> io::Result<bool> {
+        let shown: Vec<usize> = (0..self.after.len())
+            .filter(|&k| view.shows(self.mark(k)))
+            .filter(|&k| self.mark(k) != Mark::Untouched || self.entry(k) != 0)
+            .collect();
+        if shown.is_empty() {
+            return Ok(false);
+        }
+        let writes = counted(self.writes.iter().sum());
+        writeln!(out, "\n{}: {writes}", self.title)?;
+        let follows = |&a: &usize, &b: &usize| b == a + 1 && self.mark(a) == self.mark(b);
+        for range in shown.chunk_by(|a, b| !view.entries && follows(a, b)) {
+            writeln!(out, "{}", self.range(range[0], range[range.len() - 1]))?;
+        }
+        Ok(true)
+    }
+
+    fn entry(&self, k: usize) -> u32 {
+        self.after[k] & ENTRY_BITS
+    }
+
+    fn was(&self, k: usize) -> u32 {
+        self.before[k] & ENTRY_BITS
+    }
+
+    fn mark(&self, k: usize) -> Mark {
+        Mark::of(self.was(k) != self.entry(k), self.writes[k] > 0)
+    }
+
+    fn value(&self, entry: u32) -> String {
+        significant((self.value)(entry), 4)
+    }
+
+    /// A range of entries by its ends.
+    fn range(&self, first: usize, last: usize) -> String {
+        if first == last {
+            return self.lone(first);
+        }
+        let (mark, name) = (self.mark(first), format!("{first}-{last}"));
+        let (a, b) = (self.entry(first), self.entry(last));
+        let (from, to) = (self.value(a), self.value(b));
+        if (first..=last).all(|k| self.entry(k) == a) {
+            return format!("  {mark} {name:<9} {a:06X} in all of them, value {from}");
+        }
+        format!("  {mark} {name:<9} {a:06X} to {b:06X}, value {from} to {to}")
+    }
+
+    fn lone(&self, k: usize) -> String {
+        let (mark, entry, was) = (self.mark(k), self.entry(k), self.was(k));
+        let text = format!("  {mark} {k:<9} {entry:06X}, value {}", self.value(entry));
+        if was == entry {
+            return text;
+        }
+        format!("{text:<42} was {was:06X}, value {}", self.value(was))
+    }
+}

@@ -1,0 +1,62 @@
+//! Numbers and names as people read them.
+
+/// Digits in groups of three: 65,536.
+pub fn grouped(number: impl Into<u128>) -> String {
+    let digits = number.into().to_string();
+    let mut text = String::new();
+    for (k, digit) in digits.chars().enumerate() {
+        if k > 0 && (digits.len() - k) % 3 == 0 {
+            text.push(',');
+        }
+        text.push(digit);
+    }
+    text
+}
+
+/// A part of a whole in per cent, with one decimal, rounded half up; of nothing it is 0.
+pub fn percent(part: u64, whole: u64) -> String {
+    let (part, whole) = (u128::from(part), u128::from(whole.max(1)));
+    let tenths = (part * 2000 + whole) / (2 * whole);
+    format!("{}.{}", tenths / 10, tenths % 10)
+}
+
+/// A name of at most so many letters: a longer one loses some in the middle, and more of its start than of its end, where names of
+/// captures differ.
+pub fn shortened(name: &str, most: usize) -> String {
+    let letters: Vec<char> = name.chars().collect();
+    if letters.len() <= most {
+        return name.to_owned();
+    }
+    let kept = most.saturating_sub(2);
+    let (start, end) = (kept / 3, kept - kept / 3);
+    let (head, tail) = (&letters[..start], &letters[letters.len() - end..]);
+    head.iter().chain(&['.', '.']).chain(tail).collect()
+}
+
+#[cfg(test)]
+mod tests {
+    use super::*;
+
+    #[test]
+    fn numbers_are_grouped_and_rounded() {
+        assert_eq!(
+            [0u64, 999, 1000, 65_536, 1_234_567].map(grouped),
+            ["0", "999", "1,000", "65,536", "1,234,567"]
+        );
+        assert_eq!(percent(6, 480), "1.3"); // 1.25 rounds up
+        assert_eq!(percent(1, 3), "33.3");
+        assert_eq!(percent(2, 3), "66.7");
+        assert_eq!(
+            (percent(0, 0), percent(5, 5)),
+            (String::from("0.0"), String::from("100.0"))
+        );
+        assert_eq!(percent(u64::MAX, u64::MAX), "100.0");
+    }
+
+    #[test]
+    fn names_are_shortened_in_the_middle() {
+        assert_eq!(shortened("frame.bin", 9), "frame.bin");
+        assert_eq!(shortened("captures/frame-0001.bin", 14), "capt..0001.bin");
+        assert_eq!(shortened("ééééé", 4), "..éé");
+    }
+}
