@@ -88,8 +88,8 @@ pub extern "C" fn pica_writes(
     ensures values { λ _. ⌜ now (values .exit) ≡ writesValues (now (list .entry)) (now (ids .entry)) (now (masks .entry)) (now (values .entry)) ⌝ }
 {
     match writes::writes_of(list, ids, masks, values) {
-        ListVerdict::Accepted(n) => told(0, n),
-        ListVerdict::Refused(why) => told(why.number, why.place),
+        ListVerdict::Accepted(count) => told(0, count),
+        ListVerdict::Refused(refusal) => told(refusal.number, refusal.place),
     }
 }
 

@@ -52,10 +52,29 @@ module _ (l : List ℕ) (at : ℕ) where
   pub id-next : (m i : ℕ) → m < countOf h → i ≡ getD (idsIn E) m 0 → i + stepOf h ≡ getD (idsIn E) (m + 1) 0
   id-next m i p e = let n : m + 1 ≡ suc m = omega arith in rw (n, e) (sym (ids-rise (countOf h + 1) 0 (idOf h) m (omega arith)))
 
-  value-at : (j : ℕ) → j < countOf h + 1 → getD (valuesIn E) j 0 ≡ paramAt l at j
-  value-at j p = let z : 0 + j ≡ j = omega arith in rw z at (value-param (countOf h + 1) 0 (idOf h) j p)
+  -- its masks are all the header's, and its values are its parameters
+  pub mask-at : (j : ℕ) → j ≤ countOf h → maskOf h ≡ getD (masksIn E) j 0
+  mask-at j p = sym (mask-same (countOf h + 1) 0 (idOf h) j (omega arith))
 
-  -- AS THEY ARE PUT: its first j writes stand in three buffers, from place k on
+  pub value-at : (j : ℕ) → j ≤ countOf h → paramAt l at j ≡ getD (valuesIn E) j 0
+  value-at j p =
+      let z : 0 + j ≡ j = omega arith in
+      let e = value-param (countOf h + 1) 0 (idOf h) j (omega arith) in
+      sym (rw z at e)
+
+  -- A ROW AS IT IS PUT, into a buffer from place k on: the next word of it, in its place p
+  module _ (f : Write → ℕ) (old : List ℕ) (k : ℕ) (room : k + (countOf h + 1) ≤ length old) where
+    pub row-next : (new : List ℕ) (j p n x : ℕ) → p ≡ k + j → n ≡ j + 1 → j ≤ countOf h → x ≡ getD (map f E) j 0
+        → new ≡ paste old k (map f E) j → set new p x ≡ paste old k (map f E) n
+    row-next new j p n x e g q a s =
+        next-word old (map f E) k j p n x new e g (omega arith) (omega (arith, row-long f)) s a
+
+    -- put over a buffer in which its first word stands already, it is put over the one before
+    pub row-over : (start : List ℕ) (n : ℕ) → start ≡ paste old k (map f E) 1 → 1 ≤ n → n ≤ countOf h + 1
+        → paste start k (map f E) n ≡ paste old k (map f E) n
+    row-over start n e p q = rw e (copy-more old (map f E) k 1 n (omega arith) (omega (arith, row-long f)) p)
+
+  -- THE THREE ROWS TOGETHER: its first j writes stand in the buffers from place k on
   pub record Put (k j : ℕ) (is₀ ms₀ vs₀ is ms vs : List ℕ) : Type 0 where
     pub ids : is ≡ paste is₀ k (idsIn E) j
     pub masks : ms ≡ paste ms₀ k (masksIn E) j
@@ -69,38 +88,27 @@ module _ (l : List ℕ) (at : ℕ) where
       -- one write more, in its place p
       pub put-next : (is ms vs : List ℕ) (j p n i m v : ℕ) → p ≡ k + j → n ≡ j + 1 → j ≤ countOf h → i ≡ getD (idsIn E) j 0 → m ≡ maskOf h
           → v ≡ paramAt l at j → Put k j is₀ ms₀ vs₀ is ms vs → Put k n is₀ ms₀ vs₀ (set is p i) (set ms p m) (set vs p v)
-      put-next is ms vs j p n i m v e f q a b c P =
-          let last = countOf h + 1 in (
+      put-next is ms vs j p n i m v e g q a b c P =
           record {
-            ids =
-                next-word is₀ (idsIn E) k j p n i is e f (omega arith) (omega (arith, row-long (λ (w : Write). w .id))) (P .ids) a;
-            masks =
-                next-word ms₀ (masksIn E) k j p n m ms e f (omega arith) (omega (arith, row-long (λ (w : Write). w .mask))) (P .masks)
-                (b ∙ sym (mask-same last 0 (idOf h) j (omega arith)));
-            values =
-                next-word vs₀ (valuesIn E) k j p n v vs e f (omega arith) (omega (arith, row-long (λ (w : Write). w .value))) (P .values)
-                (c ∙ sym (value-at j (omega arith)));
+            ids = row-next (λ (w : Write). w .id) is₀ k room is j p n i e g q a (P .ids);
+            masks = row-next (λ (w : Write). w .mask) ms₀ k (omega arith) ms j p n m e g q (b ∙ mask-at j q) (P .masks);
+            values = row-next (λ (w : Write). w .value) vs₀ k (omega arith) vs j p n v e g q (c ∙ value-at j q) (P .values);
           }
-          )
 
       -- its first n writes, put over buffers in which its first stands already, are put over those before
       module _ (is₁ ms₁ vs₁ : List ℕ) (P : Put k 1 is₀ ms₀ vs₀ is₁ ms₁ vs₁) (n : ℕ) (p : 1 ≤ n) (q : n ≤ countOf h + 1) where
-        same : (f : Write → ℕ) (old start : List ℕ) → length old ≡ length is₀ → start ≡ paste old k (map f E) 1
-            → paste start k (map f E) n ≡ paste old k (map f E) n
-        same f old start e g = rw g (copy-more old (map f E) k 1 n (omega arith) (omega (arith, row-long f)) p)
+        ids-over : paste is₁ k (idsIn E) n ≡ paste is₀ k (idsIn E) n
+        ids-over = row-over (λ (w : Write). w .id) is₀ k room is₁ n (P .ids) p q
 
-        ids-same : paste is₁ k (idsIn E) n ≡ paste is₀ k (idsIn E) n
-        ids-same = same (λ (w : Write). w .id) is₀ is₁ refl (P .ids)
+        masks-over : paste ms₁ k (masksIn E) n ≡ paste ms₀ k (masksIn E) n
+        masks-over = row-over (λ (w : Write). w .mask) ms₀ k (omega arith) ms₁ n (P .masks) p q
 
-        masks-same : paste ms₁ k (masksIn E) n ≡ paste ms₀ k (masksIn E) n
-        masks-same = same (λ (w : Write). w .mask) ms₀ ms₁ (sym (level .0)) (P .masks)
-
-        values-same : paste vs₁ k (valuesIn E) n ≡ paste vs₀ k (valuesIn E) n
-        values-same = same (λ (w : Write). w .value) vs₀ vs₁ (sym (level .1)) (P .values)
+        values-over : paste vs₁ k (valuesIn E) n ≡ paste vs₀ k (valuesIn E) n
+        values-over = row-over (λ (w : Write). w .value) vs₀ k (omega arith) vs₁ n (P .values) p q
 
         pub put-over : (is ms vs : List ℕ) → Put k n is₁ ms₁ vs₁ is ms vs → Put k n is₀ ms₀ vs₀ is ms vs
-        put-over is ms vs Q = record { ids = Q .ids ∙ ids-same; masks = Q .masks ∙ masks-same; values = Q .values ∙ values-same }
+        put-over is ms vs Q = record { ids = Q .ids ∙ ids-over; masks = Q .masks ∙ masks-over; values = Q .values ∙ values-over }
 
         pub put-back : (is ms vs : List ℕ) → Put k n is₀ ms₀ vs₀ is ms vs → Put k n is₁ ms₁ vs₁ is ms vs
         put-back is ms vs Q =
-            record { ids = Q .ids ∙ sym ids-same; masks = Q .masks ∙ sym masks-same; values = Q .values ∙ sym values-same }
+            record { ids = Q .ids ∙ sym ids-over; masks = Q .masks ∙ sym masks-over; values = Q .values ∙ sym values-over }

@@ -14,8 +14,70 @@ ghost use Rattle.writes.specs.Listed.{writesAnswer, writesIds, writesMas
 use reader::ListVerdict;
 use words::Refusal;
 
-// The writes of the command at `at`, into the places from `k` on: its first value stands before the header, the others after it.
-fn put_command(
+// The ids of the writes of the command at `at`, into the places from `k` on.
+fn put_ids(list: &[u32], at: usize, ids: &mut [u32], k: usize)
+    requires { ⌜
+        (at + wordsOf (headerAt (now list) at) ≤ length (now list)) × (k + (countOf (headerAt (now list) at) + 1) ≤ length (now ids))
+        ⌝ }
+    ensures { λ _. ⌜
+        now (ids .exit)
+        ≡ paste (now (ids .entry)) k (idsIn (expand (now (list .entry)) at)) (countOf (headerAt (now (list .entry)) at) + 1)
+        ⌝ }
+{
+    let h = words::parts(list[at + 1]);
+    let step = h.step;
+    let n = h.count as usize + 1;
+    let mut next = h.id;
+    let mut m = 0;
+    while m < n {
+        ids[k + m] = next;
+        next += step;
+        m += 1;
+    }
+}
+
+// Their masks.
+fn put_masks(list: &[u32], at: usize, masks: &mut [u32], k: usize)
+    requires { ⌜
+        (at + wordsOf (headerAt (now list) at) ≤ length (now list)) × (k + (countOf (headerAt (now list) at) + 1) ≤ length (now masks))
+        ⌝ }
+    ensures { λ _. ⌜
+        now (masks .exit)
+        ≡ paste (now (masks .entry)) k (masksIn (expand (now (list .entry)) at)) (countOf (headerAt (now (list .entry)) at) + 1)
+        ⌝ }
+{
+    let h = words::parts(list[at + 1]);
+    let mask = h.mask;
+    let n = h.count as usize + 1;
+    let mut j = 0;
+    while j < n {
+        masks[k + j] = mask;
+        j += 1;
+    }
+}
+
+// Their values: the first stands before the header, the others after it.
+fn put_values(list: &[u32], at: usize, values: &mut [u32], k: usize)
+    requires { ⌜
+        (at + wordsOf (headerAt (now list) at) ≤ length (now list)) × (k + (countOf (headerAt (now list) at) + 1) ≤ length (now values))
+        ⌝ }
+    ensures { λ _. ⌜
+        now (values .exit)
+        ≡ paste (now (values .entry)) k (valuesIn (expand (now (list .entry)) at)) (countOf (headerAt (now (list .entry)) at) + 1)
+        ⌝ }
+{
+    let h = words::parts(list[at + 1]);
+    let n = h.count as usize + 1;
+    values[k] = list[at];
+    let mut j = 1;
+    while j < n {
+        values[k + j] = list[at + 1 + j];
+        j += 1;
+    }
+}
+
+// The writes of a short command, one after another.
+fn put_short(
     list: &[u32],
     at: usize,
     ids: &mut [u32],
@@ -57,6 +119,44 @@ fn put_command(
         masks[k + m] = mask;
         values[k + m] = list[at + 1 + m];
     }
+}
+
+// The writes of the command at `at`, into the places from `k` on. A long command's go row by row, each row in a loop that runs as a copy
+// or a fill does; a short one's go in one loop, because three that end where chance decides cost more.
+fn put_command(
+    list: &[u32],
+    at: usize,
+    ids: &mut [u32],
+    masks: &mut [u32],
+    values: &mut [u32],
+    k: usize,
+)
+    requires { ⌜ at + wordsOf (headerAt (now list) at) ≤ length (now list) ⌝ }
+    requires { ⌜
+        (k + (countOf (headerAt (now list) at) + 1) ≤ length (now ids)) × (length (now ids) ≡ length (now masks))
+        × (length (now ids) ≡ length (now values))
+        ⌝ }
+    ensures ids { λ _. ⌜
+        now (ids .exit)
+        ≡ paste (now (ids .entry)) k (idsIn (expand (now (list .entry)) at)) (countOf (headerAt (now (list .entry)) at) + 1)
+        ⌝ }
+    ensures masks { λ _. ⌜
+        now (masks .exit)
+        ≡ paste (now (masks .entry)) k (masksIn (expand (now (list .entry)) at)) (countOf (headerAt (now (list .entry)) at) + 1)
+        ⌝ }
+    ensures values { λ _. ⌜
+        now (values .exit)
+        ≡ paste (now (values .entry)) k (valuesIn (expand (now (list .entry)) at)) (countOf (headerAt (now (list .entry)) at) + 1)
+        ⌝ }
+{
+    let h = words::parts(list[at + 1]);
+    if h.count < 16 {
+        put_short(list, at, ids, masks, values, k);
+        return;
+    }
+    put_ids(list, at, ids, k);
+    put_masks(list, at, masks, k);
+    put_values(list, at, values, k);
 }
 
 // The writes of a well-formed list, into buffers that have room for them.

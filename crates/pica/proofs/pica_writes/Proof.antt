@@ -6,14 +6,14 @@ use Rattle.pica.proofs.pica_writes.Tie as tie
 writes-of-requires : tie.Need-writes-of-requires
 writes-of-requires c κs = search needs
 
-enum-known-n : tie.Need-enum-known-n
-enum-known-n c = search needs
+enum-known-count : tie.Need-enum-known-count
+enum-known-count c = search needs
 
 told-requires : tie.Need-told-requires
 told-requires c κs = search needs
 
-enum-known-why : tie.Need-enum-known-why
-enum-known-why c = search needs
+enum-known-refusal : tie.Need-enum-known-refusal
+enum-known-refusal c = search needs
 
 told-requires-2 : tie.Need-told-requires-2
 told-requires-2 c κs = search needs
@@ -30,7 +30,7 @@ same-length-3 c = search needs
 returns : tie.Need-returns
 returns c =
     let p = c .before .before .before .before .before .before .before .before .before .before .writes-of in
-    (rw (← p .ensures .0, c .before .before .n .given .1, c .told .ensures), p .ensures .1)
+    (rw (← p .ensures .0, c .before .before .count .given .1, c .told .ensures), p .ensures .1)
 
 same-length-4 : tie.Need-same-length-4
 same-length-4 c = search needs
@@ -44,16 +44,16 @@ same-length-6 c = search needs
 returns-2 : tie.Need-returns-2
 returns-2 c =
     let p = c .before .before .before .before .before .before .before .before .before .before .writes-of in
-    (rw (← p .ensures .0, c .before .before .why .given .1, c .told2 .ensures), p .ensures .1)
+    (rw (← p .ensures .0, c .before .before .refusal .given .1, c .told2 .ensures), p .ensures .1)
 
 pub pica-writes-spec : {M : Type 1} → statement M
 pica-writes-spec =
     tie.close
     (tie.spec
     writes-of-requires
-    enum-known-n
+    enum-known-count
     told-requires
-    enum-known-why
+    enum-known-refusal
     told-requires-2
     same-length
     same-length-2

@@ -9,8 +9,8 @@ use Rattle.words.specs.Header.{countOf}
 use Rattle.words.specs.Commands.{headerAt, expand}
 use Rattle.reader.proofs.Applying.{param-later}
 use Rattle.writes.proofs.Rows.{Put, id-first, id-next, put-none, put-next, put-over, put-back}
-use Rattle.writes.proofs.put_command.Statement.{statement}
-use Rattle.writes.proofs.put_command.Tie as tie
+use Rattle.writes.proofs.put_short.Statement.{statement}
+use Rattle.writes.proofs.put_short.Tie as tie
 
 abbrev Inv-loop : tie.InvT-loop
 Inv-loop list at ids₀ masks₀ values₀ k mask step count id₀ m₀ ids masks values id m =
@@ -202,8 +202,8 @@ returns c =
     _ _ _ (first h) (o .m + 1) (omega arith) (omega arith) (o .ids) (o .masks) (o .values) (o .inv .6) in
     (rw z at (P .ids), (rw z at (P .masks), rw z at (P .values)))
 
-pub put-command-spec : {M : Type 1} → statement M
-put-command-spec =
+pub put-short-spec : {M : Type 1} → statement M
+put-short-spec =
     tie.close
     (tie.spec
     Inv-loop
