@@ -19,6 +19,8 @@ use Rattle.registers.specs.State.{State, sized}
 use Rattle.registers.specs.Applied.{apply, applyAll}
 use Rattle.registers.specs.Single.{refusalOf}
 use Rattle.registers.specs.declared.Written.{Written}
+use Rattle.registers.specs.declared.Written.the-variants as written
+use Rattle.registers.proofs.Once.{told-one as write-told-one}
 use Rattle.registers.proofs.Single.{fault-refusal}
 use Rattle.reader.specs.ListVerdict.{verdict, allAllowed}
 use Rattle.reader.specs.declared.ListVerdict.{ListVerdict}
@@ -37,12 +39,12 @@ use Rattle.packer.specs.declared.Packed.the-variants as packer
 use Rattle.demands.specs.Said.{Said}
 use Rattle.demands.specs.Refusals.{OneLength, WritesRefused}
 use Rattle.demands.proofs.Lengths.{apply-sized}
-use Rattle.demands.proofs.Listed.{writes-tested, writes-given, refused-writes, writes-row}
+use Rattle.demands.proofs.Listed.{writes-tested, writes-given, refused-writes, as-read, writes-row}
 use Rattle.demands.proofs.Said.{said-packable}
-use Rattle.demands.proofs.Calls.{WriteCall, ReadCall, WritesCall, PackCall, write-call, writes-call}
+use Rattle.demands.proofs.Calls.{WriteCall, ReadCall, WritesCall, PackCall, write-call, read-call, writes-call}
 use Rattle.demands.proofs.EndToEnd.{read-accepts, packed-put, packs}
 
--- A REFUSAL is by a number of the table, and leaves the three buffers as they were
+-- A REFUSAL is by 7, a number of the reader's or 22, with its place, and leaves the three buffers as they were
 pub writes-refuses : {l is ms vs is′ ms′ vs′ : List ℕ} {why : Refusal} → WritesCall l is ms vs (list-verdict.Refused why) is′ ms′ vs′
     → (is′ ≡ is) × (ms′ ≡ ms) × (vs′ ≡ vs) × WritesRefused l is ms vs (why .number) (why .place)
 writes-refuses {l} {is} {ms} {vs} {why = why} c =
@@ -50,6 +52,13 @@ writes-refuses {l} {is} {ms} {vs} {why = why} c =
     let e = sym (k .0) in
     let r = refused-writes l is ms vs (why .number) (why .place) e in
     (k .1 ∙ r .0, k .2 ∙ r .1, k .3 ∙ r .2, writes-row l is ms vs (why .number) (why .place) e)
+
+-- "THEN THE READER'S OF THE LIST": what a reading refuses for the list, and not for its state, is refused here by the same number and place
+pub same-refusal : {s t : State} {l is ms vs is′ ms′ vs′ : List ℕ} {why : Refusal} {r : ListVerdict}
+    → ReadCall s l (list-verdict.Refused why) t → sized s ≡ true → WritesCall l is ms vs r is′ ms′ vs′ → OneLength is ms vs
+    → r ≡ list-verdict.Refused why
+same-refusal {s} {l = l} {is} {ms} {vs} {why = why} {r} d z c o =
+    told-one r _ (writes-call c .0 ∙ as-read s l is ms vs z o (why .number) (why .place) (sym (read-call d .0)))
 
 -- AN ANSWER: the first n places are the list's expansion, and those past them are as they were
 pub record ListedIn (l is ms vs is′ ms′ vs′ : List ℕ) (n : ℕ) : Type 0 where
@@ -66,11 +75,12 @@ pub record ListedIn (l is ms vs is′ ms′ vs′ : List ℕ) (n : ℕ) : Type 0
   pub values-kept : drop n vs′ ≡ drop n vs
 
 -- a row that stands at a buffer's start
-stands : (f : Write → ℕ) (ws : List Write) (n : ℕ) (old new : List ℕ) → n ≡ length ws → new ≡ map f ws ++ drop n old
+stands : (f : Write → ℕ) (ws : List Write) (n : ℕ) (old new : List ℕ) → n ≡ length ws
+    → new ≡ map f ws ++ drop (length (map f ws)) old
     → (take n new ≡ map f ws) × (drop n new ≡ drop n old)
 stands f ws n old new e s =
     let long : length (map f ws) ≡ n = length-map ws f ∙ sym e in
-    (ap (take n) s ∙ take-at (map f ws) (drop n old) n long, ap (drop n) s ∙ drop-at (map f ws) (drop n old) n long)
+    (ap (take n) s ∙ take-at (map f ws) _ n long, ap (drop n) s ∙ drop-at (map f ws) _ n long ∙ ap (λ (k : ℕ). drop k old) long)
 
 -- what stands there, by the answer
 module _ {l is ms vs is′ ms′ vs′ : List ℕ} {a : ListVerdict} (n : ℕ) (c : WritesCall l is ms vs a is′ ms′ vs′)
@@ -125,12 +135,12 @@ pub writes-lists : {l is ms vs is′ ms′ vs′ : List ℕ} {r : ListVerdict} �
     → r ≡ list-verdict.Accepted (length (expansion l))
 writes-lists {l} {is} {ms} {vs} {r = r} c o h f a k = told-one r _ (writes-call c .0 ∙ writes-given l is ms vs o h f a k)
 
--- "PACKING WHAT IT GIVES TAKES AT MOST THE LIST'S OWN WORDS", for a list of at most 4,096 writes: the packer's list says the same, or the
--- words that it asks for are no more than the list has
+-- "PACKING WHAT IT GIVES TAKES AT MOST THE LIST'S OWN WORDS", for a list of at most 4,096 writes: the packer's list says the same writes in
+-- no more words, or the words that it asks for are no more
 pub writes-then-pack : {l is ms vs is′ ms′ vs′ old new : List ℕ} {n : ℕ} {r : Packed}
     → WritesCall l is ms vs (list-verdict.Accepted n) is′ ms′ vs′ → n ≤ 4096 → PackCall (take n is′) (take n ms′) (take n vs′) old r new
     → (m : ℕ) × (m ≤ length l)
-    × (((r ≡ packer.Words m) × (expansion (take m new) ≡ expansion l))
+    × (((r ≡ packer.Words m) × Says (expansion l) (take m new))
     ⊎ ((r ≡ packer.Refused (record { number = 10; place = m })) × (length old < m)))
 writes-then-pack {l} {is} {ms} {vs} {is′} {ms′} {vs′} {old} {new} {n} {r} c few p =
     let L = writes-listed c in
@@ -140,7 +150,7 @@ writes-then-pack {l} {is} {ms} {vs} {is′} {ms′} {vs′} {old} {new} {n} {r} 
     let long = writes-length (take n is′) (take n ms′) (take n vs′) (L .one-length .0) (L .one-length .1) in
     let few : length (take n is′) ≤ 4096 = omega (arith, few, L .number, long, ap length (L .writes)) in
     ⊎-elim
-    (λ x. (x .0, omega (arith, x .3 .shortest .least l says, x .3 .words), inl (x .1, x .3 .shortest .says .writes ∙ L .writes)))
+    (λ x. (x .0, omega (arith, x .3 .shortest .least l says, x .3 .words), inl (x .1, rw (L .writes) at (x .3 .shortest .says))))
     (λ x. (x .0, x .2 .least l says, inr (x .1, x .2 .lacking))) (packs p (L .one-length) few said)
 
 -- "THE WRITES OF A PACKED LIST ARE THE RUN", in buffers with places for it
@@ -177,24 +187,36 @@ abbrev pub InTurn : State → List Write → State → Type 0
 InTurn s [] t = t ≡ s
 InTurn s (w ∷ ws) t = (u : State) × (r : Written) × WriteCall s w r u × InTurn u ws t
 
-in-turn : (ws : List Write) (s t : State) → sized s ≡ true → Packable ws → InTurn s ws t → t ≡ applyAll s ws
-in-turn [] s t z p e = e ∙ sym (apply-none s)
+-- none of them is refused
+abbrev pub EachDone : (s : State) (ws : List Write) (t : State) → InTurn s ws t → Type 0
+EachDone s [] t c = Unit {0}
+EachDone s (w ∷ ws) t c = (c .1 ≡ written.Done) × EachDone (c .0) ws t (c .3)
+
+in-turn : (ws : List Write) (s t : State) → sized s ≡ true → Packable ws → (c : InTurn s ws t)
+    → EachDone s ws t c × (t ≡ applyAll s ws)
+in-turn [] s t z p c = (tt, c ∙ sym (apply-none s))
 in-turn (w ∷ ws) s t z p c =
     let u = c .0 in
     let f : refusalOf s w ≡ 0 =
     fault-refusal s w z (p .0) ∙ eqb-true (faultOf (w .id) (w .mask)) 0 (sym (allowed-fault (w .id) (w .mask)) ∙ p .1) in
-    let a = write-call (c .2) .1 in
+    let k = write-call (c .2) in
+    let a = k .1 in
     let e : u ≡ apply s w = rw f at a in
+    let d = k .0 in
+    let done : c .1 ≡ written.Done = write-told-one (c .1) written.Done (rw f at d) in
     let z′ : sized u ≡ true = ap sized e ∙ apply-sized s w ∙ z in
-    in-turn ws u t z′ (p .2) (c .3) ∙ ap (λ (x : State). applyAll x ws) e ∙ sym (apply-more s w ws)
+    let rest = in-turn ws u t z′ (p .2) (c .3) in
+    ((done, rest .0), rest .1 ∙ ap (λ (x : State). applyAll x ws) e ∙ sym (apply-more s w ws))
 
 pub writes-then-write : {l is ms vs is′ ms′ vs′ : List ℕ} {n : ℕ} {s t u : State} {r : ListVerdict}
     → WritesCall l is ms vs (list-verdict.Accepted n) is′ ms′ vs′ → sized s ≡ true
-    → InTurn s (writes (take n is′) (take n ms′) (take n vs′)) t → ReadCall s l r u → (r ≡ list-verdict.Accepted n) × (u ≡ t)
+    → (w : InTurn s (writes (take n is′) (take n ms′) (take n vs′)) t) → ReadCall s l r u
+    → EachDone s (writes (take n is′) (take n ms′) (take n vs′)) t w × (r ≡ list-verdict.Accepted n) × (u ≡ t)
 writes-then-write {l} {is} {ms} {vs} {is′} {ms′} {vs′} {n} {s} {t} {u} {r} c z w d =
     let L = writes-listed c in
     let ws = writes (take n is′) (take n ms′) (take n vs′) in
     let v = writes-tested l is ms vs n (sym (writes-call c .0)) .2 in
     let p = said-packable ws (record { list = l; short = L .short; says = says-of ws l n v (sym (L .writes)) }) in
-    let q = read-accepts d (record { lengths = z; short = L .short; form = L .form; writes = L .allowed }) in
-    (q .0 ∙ ap list-verdict.Accepted (sym (L .number)), q .1 ∙ ap (applyAll s) (sym (L .writes)) ∙ sym (in-turn ws s t z p w))
+    let q = read-accepts d (record { lengths = z; short = L .short; form = L .form; allowed = L .allowed }) in
+    let x = in-turn ws s t z p w in
+    (x .0, q .0 ∙ ap list-verdict.Accepted (sym (L .number)), q .1 ∙ ap (applyAll s) (sym (L .writes)) ∙ sym (x .1))

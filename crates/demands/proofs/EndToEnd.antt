@@ -1,5 +1,5 @@
 -- THE DEMANDS OF THE FUNCTIONS, from their contracts alone: what is known of every answer that a call may give and of all that it may
--- leave. Who trusts nothing else starts here. Assumes nothing.
+-- leave. Who trusts nothing else starts here; the writes of a list are in Between.antt. Assumes nothing.
 use mathlib.Core.Path.{_≡_, refl, sym, ap, _∙_}
 use mathlib.Core.Bool.{Bool, true, false}
 use mathlib.Core.List.{List}
@@ -57,7 +57,9 @@ use Rattle.demands.proofs.RunRefusals.{pack-row}
 use Rattle.demands.proofs.Said.{said-packable}
 use Rattle.demands.proofs.Packing.{refused-pack, answered-then, given-said, reads-back, room, no-room}
 
--- DEMAND 1: "Every entry point answers, or refuses by a number of the table. A refused list leaves all three buffers as they were."
+-- DEMAND 1: "Any words, any numbers may come in. Every entry point answers, or refuses by a number of the table, and asks nothing of its
+-- caller. A refused list leaves all three buffers as they were, also when its last command is the bad one." That nothing is asked is no
+-- theorem: the contracts have no precondition.
 
 pub write-refuses : {s t : State} {w : Write} {why : Refusal} → WriteCall s w (written.Refused why) t
     → (t ≡ s) × WriteRefused s w (why .number) (why .place)
@@ -93,7 +95,7 @@ pub record Acceptable (s : State) (l : List ℕ) : Type 0 where
   pub lengths : sized s ≡ true
   pub short : length l ≤ 65536
   pub form : wellFormed l ≡ true
-  pub writes : allAllowed (expansion l) ≡ true
+  pub allowed : allAllowed (expansion l) ≡ true
 
 pub read-accepts-only : {s t : State} {l : List ℕ} {n : ℕ} → ReadCall s l (list-verdict.Accepted n) t
     → Acceptable s l × (n ≡ length (expansion l)) × (t ≡ applyAll s (expansion l))
@@ -102,13 +104,13 @@ read-accepts-only {s} {t} {l} {n} c =
     let e = sym (k .0) in
     let z = read-tested s l n e in
     let a = accepted-only s l (z .0) (z .1) n e in
-    (record { lengths = z .0; short = z .1; form = a .0; writes = a .1 }, a .2, k .1 ∙ leaves s l (z .0) (z .1) n e)
+    (record { lengths = z .0; short = z .1; form = a .0; allowed = a .1 }, a .2, k .1 ∙ leaves s l (z .0) (z .1) n e)
 
 pub read-accepts : {s t : State} {l : List ℕ} {r : ListVerdict} → ReadCall s l r t → Acceptable s l
     → (r ≡ list-verdict.Accepted (length (expansion l))) × (t ≡ applyAll s (expansion l))
 read-accepts {s} {t} {l} {r} c a =
     let k = read-call c in
-    let e = accepted s l (a .lengths) (a .short) (a .form) (a .writes) in
+    let e = accepted s l (a .lengths) (a .short) (a .form) (a .allowed) in
     (told-one r (list-verdict.Accepted (length (expansion l))) (k .0 ∙ e), k .1 ∙ leaves s l (a .lengths) (a .short) _ e)
 
 -- a single write that is done is allowed, and leaves what the write leaves

@@ -1,4 +1,4 @@
--- The writes of a list, over the definitions: when they are given, and that each refusal is one of the table's rows for that call.
+-- The writes of a list, over the definitions: when they are given, and that each refusal is one of the rows for that call.
 -- Assumes nothing.
 use mathlib.Core.Path.{_≡_, refl, sym, ap, _∙_}
 use mathlib.Core.Bool.{Bool, true, false, _&&_, false≢true}
@@ -11,15 +11,16 @@ use lib.ListN.{length}
 use borrow.Author.Tests.{leb-true, leb-false}
 use Rattle.numbers.specs.Pick.{pick}
 use Rattle.numbers.specs.Answer.{Answer, answered, refused}
-use Rattle.numbers.specs.Room.{andThen, ifRoom, spaceAfter}
+use Rattle.numbers.specs.Room.{level, andThen, ifRoom}
 use Rattle.numbers.proofs.Answers.{told-apart, number-one, place-one}
-use Rattle.numbers.proofs.Room.{room-answered, room-refused}
+use Rattle.numbers.proofs.Room.{level-lengths, lengths-level, room-answered, room-refused}
 use Rattle.words.specs.Commands.{expansion, wellFormed}
+use Rattle.registers.specs.State.{State, sized}
 use Rattle.reader.specs.ListVerdict.{verdict, allAllowed}
+use Rattle.reader.specs.Read.{readAnswer}
 use Rattle.reader.proofs.Accepted.{verdict-accepted, verdict-accepts}
 use Rattle.writes.specs.Listed.{writesAnswer, writesIds, writesMasks, writesValues}
-use Rattle.writes.proofs.Listed.{level, room}
-use Rattle.packer.proofs.Checks.{level-lengths, lengths-level}
+use Rattle.writes.proofs.Listed.{room}
 use Rattle.demands.specs.Refusals.{OneLength, WritesRefused}
 use Rattle.demands.proofs.Refusals.{verdict-row}
 
@@ -59,6 +60,21 @@ module _ (l is ms vs : List ℕ) where
   pub refused-writes : (n p : ℕ) → writesAnswer l is ms vs ≡ refused n p
       → (writesIds l is ms vs ≡ is) × (writesMasks l is ms vs ≡ ms) × (writesValues l is ms vs ≡ vs)
   refused-writes n p e = rw e (refl, refl, refl)
+
+  -- is the reader's, where it refuses the list and not its state
+  by-reading : (s : State) (n p : ℕ) (b : Bool) → level is ms vs ≡ true
+      → pick b (verdict l) (refused 1 0) ≡ refused n p
+      → pick b (andThen (verdict l) (ifRoom 22 need (length is))) (refused 1 0) ≡ refused n p
+  by-reading s n p true t e = rw e
+  by-reading s n p false t e = e
+
+  pub as-read : (s : State) → sized s ≡ true → OneLength is ms vs → (n p : ℕ) → readAnswer s l ≡ refused n p
+      → writesAnswer l is ms vs ≡ refused n p
+  unfolding writesAnswer readAnswer
+  as-read s z o n p e =
+      let t = lengths-level is ms vs (o .0) (o .1) in
+      let r = rw z at e in
+      rw t (by-reading s n p (leb (length l) 65536) t r)
 
   -- and is one of the rows
   differ : level is ms vs ≡ false → OneLength is ms vs → ⊥

@@ -10,15 +10,15 @@ use lib.ListN.{length, getD}
 use borrow.Author.Tests.{leb-true, leb-false}
 use Rattle.numbers.specs.Pick.{pick}
 use Rattle.numbers.specs.Answer.{Answer, answered, refused, unlessFault}
-use Rattle.numbers.specs.Room.{andThen, ifRoom}
+use Rattle.numbers.specs.Room.{level, andThen, ifRoom}
 use Rattle.numbers.proofs.Answers.{told-apart, number-one, place-one}
-use Rattle.numbers.proofs.Room.{room-refused}
+use Rattle.numbers.proofs.Room.{level-lengths, lengths-level, room-refused}
 use Rattle.numbers.proofs.Picks.{pick-either}
 use Rattle.words.specs.Writes.{faultOf}
 use Rattle.runs.specs.PackedList.{writes, packed}
 use Rattle.packer.specs.Checks.{wrong, firstWrong, checkAnswer}
 use Rattle.packer.specs.Packing.{packAnswer}
-use Rattle.packer.proofs.Checks.{level, level-lengths, lengths-level, check-given}
+use Rattle.packer.proofs.Checks.{check-given}
 use Rattle.demands.specs.Refusals.{In, OneRefused, RunRefused, PackRefused}
 use Rattle.demands.proofs.Refusals.{Perhaps, perhaps, fault-number}
 

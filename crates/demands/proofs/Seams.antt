@@ -19,7 +19,7 @@ use Rattle.demands.proofs.Said.{said-packable}
 pub seam : (a b : List Write) (l : List ℕ) → Says (a ++ b) l → length (packed a) + length (packed b) ≤ length l + 2
 seam a b l s = omega (arith, packed-seam a b, packed-least (a ++ b) l s)
 
--- ANY NUMBER OF PARTS: the run of all of them, their packed lists one after another, and the words of these
+-- ANY NUMBER OF PARTS: the run of all of them, and their packed lists one after another
 abbrev pub joinedRun : List (List Write) → List Write
 joinedRun [] = []
 joinedRun (a ∷ rest) = a ++ joinedRun rest
@@ -28,20 +28,12 @@ abbrev pub joinedLists : List (List Write) → List ℕ
 joinedLists [] = []
 joinedLists (a ∷ rest) = packed a ++ joinedLists rest
 
-abbrev pub joinedWords : List (List Write) → ℕ
-joinedWords [] = 0
-joinedWords (a ∷ rest) = length (packed a) + joinedWords rest
-
-words-of : (rs : List (List Write)) → length (joinedLists rs) ≡ joinedWords rs
-words-of [] = refl
-words-of (a ∷ rest) = length-append (packed a) (joinedLists rest) ∙ omega (arith, words-of rest)
-
 -- each part is one that some accepted list says
 abbrev pub EachSaid : List (List Write) → Type 0
 EachSaid [] = Unit {0}
 EachSaid (a ∷ rest) = Said a × EachSaid rest
 
--- the lists joined say the whole run, of whatever length it is
+-- the lists joined say the whole run, of whatever length it is; over 65,536 words a reading refuses them with 1
 pub parts-say : (rs : List (List Write)) → EachSaid rs → Says (joinedRun rs) (joinedLists rs)
 parts-say [] s = let e = packed-none [] refl in rw e at (packed-shortest [] tt .says)
 parts-say (a ∷ rest) s =
@@ -49,15 +41,16 @@ parts-say (a ∷ rest) s =
     (parts-say rest (s .1))
 
 -- so their words are no fewer than those of its shortest list
-pub parts-bound : (rs : List (List Write)) → EachSaid rs → length (packed (joinedRun rs)) ≤ joinedWords rs
-parts-bound rs s = omega (arith, packed-least (joinedRun rs) (joinedLists rs) (parts-say rs s), words-of rs)
+pub parts-bound : (rs : List (List Write)) → EachSaid rs → length (packed (joinedRun rs)) ≤ length (joinedLists rs)
+parts-bound rs s = packed-least (joinedRun rs) (joinedLists rs) (parts-say rs s)
 
 packed-seams : (a : List Write) (rest : List (List Write))
-    → joinedWords (a ∷ rest) ≤ length (packed (joinedRun (a ∷ rest))) + 2 * length rest
-packed-seams a [] = rw (append-nil a) (omega arith)
-packed-seams a (b ∷ bs) = omega (arith, packed-seams b bs, packed-seam a (joinedRun (b ∷ bs)))
+    → length (joinedLists (a ∷ rest)) ≤ length (packed (joinedRun (a ∷ rest))) + 2 * length rest
+packed-seams a [] = rw (append-nil a, append-nil (packed a)) (omega arith)
+packed-seams a (b ∷ bs) =
+    omega (arith, packed-seams b bs, packed-seam a (joinedRun (b ∷ bs)), length-append (packed a) (joinedLists (b ∷ bs)))
 
 -- and at most two words a seam more than those of any accepted list that says it
 pub seams : (a : List Write) (rest : List (List Write)) (l : List ℕ) → Says (joinedRun (a ∷ rest)) l
-    → joinedWords (a ∷ rest) ≤ length l + 2 * length rest
+    → length (joinedLists (a ∷ rest)) ≤ length l + 2 * length rest
 seams a rest l s = omega (arith, packed-seams a rest, packed-least (joinedRun (a ∷ rest)) l s)

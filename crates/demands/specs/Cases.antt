@@ -5,7 +5,7 @@ use Prim.Native.Nat.{ℕ, zero, suc, _+_, _*_}
 use lib.IntN.{ℤ, pos, negsuc}
 use lib.ListN.{length, getD, set, replicate}
 use Rattle.numbers.specs.Answer.{Answer, answered, refused}
-use Rattle.words.specs.Writes.{Write, writing}
+use Rattle.words.specs.Writes.{Write, writing, idsIn}
 use Rattle.words.specs.Commands.{expansion}
 use Rattle.registers.specs.State.{State, st}
 use Rattle.registers.specs.Applied.{apply, applyAll}
@@ -31,9 +31,6 @@ case g w = record { got = map pos g; want = map pos w }
 abbrev numbers : Answer → List ℕ
 numbers (answered n) = 0 ∷ n ∷ []
 numbers (refused n p) = n ∷ p ∷ []
-
-abbrev ids : List Write → List ℕ
-ids ws = map (λ (w : Write). w .id) ws
 
 -- A STATE of zeros, but for some cells
 pub record Cell : Type 0 where
@@ -118,7 +115,7 @@ packing is vs =
 unfoldable pub cases : List Case
 cases =
     -- `AAAAAAAA 802F011C BBBBBBBB CCCCCCCC` is writes to 11C, 11D, 11E; program output `ok 3`
-    case (ids (expansion (0xAAAAAAAA ∷ 0x802F011C ∷ 0xBBBBBBBB ∷ 0xCCCCCCCC ∷ []))) (0x11C ∷ 0x11D ∷ 0x11E ∷ [])
+    case (idsIn (expansion (0xAAAAAAAA ∷ 0x802F011C ∷ 0xBBBBBBBB ∷ 0xCCCCCCCC ∷ []))) (0x11C ∷ 0x11D ∷ 0x11E ∷ [])
     ∷ case (lineOf (replicate 4 0xAA ++ (0x1C ∷ 0x01 ∷ 0x2F ∷ 0x80 ∷ []) ++ replicate 4 0xBB ++ replicate 4 0xCC)) (ascii "ok 3\n")
     -- value 1F71 to 107, cell 0: mask 1 leaves 71, mask 2 leaves 1F00
     ∷ case (cell107 1 ∷ cell107 2 ∷ []) (0x71 ∷ 0x1F00 ∷ [])

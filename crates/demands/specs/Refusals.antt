@@ -1,4 +1,5 @@
--- The table "Numbers given back", call by call: when a call refuses with a number, and what the place that it gives then means.
+-- The table "Numbers given back", call by call: when a call refuses with a number, and what the place that it gives then means. The
+-- writes of a list are a call of ours, with 22 of document 02.
 use mathlib.Core.Path.{_≡_}
 use mathlib.Core.Bool.{true, false}
 use mathlib.Core.List.{List, [], _∷_, _++_}
@@ -62,12 +63,13 @@ pub record WriteRefused (s : State) (w : Write) (n p : ℕ) : Type 0 where
   pub why : ((n ≡ 6) × (sized s ≡ false)) ⊎ ((n ≡ 9) × (sized s ≡ true) × (15 < w .mask))
       ⊎ ((sized s ≡ true) × (w .mask ≤ 15) × FaultNumber n × (faultOf (w .id) (w .mask) ≡ n))
 
--- THE WRITES OF A RUN: 7, 8, then the first write that is refused, with its index
+-- the write p is the first of a run that is refused
 pub record OneRefused (is ms : List ℕ) (n p : ℕ) : Type 0 where
   pub place : p < length is
   pub first : (k : ℕ) → k < p → wrong (getD is k 0) (getD ms k 0) ≡ 0
   pub why : In n (9 ∷ 3 ∷ 4 ∷ 5 ∷ []) × (wrong (getD is p 0) (getD ms p 0) ≡ n)
 
+-- THE WRITES OF A RUN: 7, 8, then the first write that is refused, with its index
 abbrev pub RunRefused : List ℕ → List ℕ → List ℕ → ℕ → ℕ → Type 0
 RunRefused is ms vs n p =
     ((n ≡ 7) × (p ≡ 0) × (OneLength is ms vs → ⊥)) ⊎ ((n ≡ 8) × (p ≡ 0) × OneLength is ms vs × (4096 < length is))

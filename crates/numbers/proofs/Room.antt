@@ -1,17 +1,28 @@
--- Lent space: the test for room by what code knows, and a row that is put part by part. Assumes nothing.
+-- Lent space: buffers of one length, the test for room by what code knows, and a row that is put part by part. Assumes nothing.
 use mathlib.Core.Path.{_≡_, refl, sym, ap, _∙_}
 use mathlib.Core.Bool.{Bool, true, false}
 use mathlib.Core.List.{List, _++_}
 use Prim.Native.Nat.{ℕ, _+_, _≤_, _<_}
 use native.Mathlib.Omega.{arith}
-use lib.Dec.{leb}
+use lib.Dec.{leb, eqb}
 use lib.ListN.{length, take, drop}
 use lib.Seq.{length-take-le, take-all, take-at, drop-at, take-add, drop-drop, paste}
-use borrow.Author.Tests.{le-leb, lt-leb, leb-true, leb-false}
+use borrow.Author.Tests.{le-leb, lt-leb, leb-true, leb-false, eqb-true, eq-eqb}
 use Rattle.numbers.specs.Pick.{pick}
 use Rattle.numbers.specs.Answer.{answered, refused}
-use Rattle.numbers.specs.Room.{ifRoom}
+use Rattle.numbers.specs.Room.{level, ifRoom}
+use Rattle.numbers.proofs.Tests.{and-true}
 use Rattle.numbers.proofs.Answers.{told-apart, number-one, place-one}
+
+-- BUFFERS OF ONE LENGTH
+module _ (is ms vs : List ℕ) where
+  pub level-lengths : level is ms vs ≡ true → (length is ≡ length ms) × (length is ≡ length vs)
+  level-lengths t =
+      let b = and-true (eqb (length is) (length ms)) (eqb (length is) (length vs)) t in
+      (eqb-true _ _ (b .0), eqb-true _ _ (b .1))
+
+  pub lengths-level : length is ≡ length ms → length is ≡ length vs → level is ms vs ≡ true
+  lengths-level e f = rw (eq-eqb _ _ e, eq-eqb _ _ f)
 
 -- THE TEST FOR ROOM
 module _ (number need room n : ℕ) (e : n ≡ need) where

@@ -1,10 +1,15 @@
--- Lent space: what is put there stands at its start, or there is no room for it.
+-- Lent space: three buffers of one length; what is put stands at the space's start, or there is no room for it.
+use mathlib.Core.Bool.{Bool, _&&_}
 use mathlib.Core.List.{List, _++_}
 use Prim.Native.Nat.{ℕ}
-use lib.Dec.{leb}
-use lib.ListN.{drop}
+use lib.Dec.{leb, eqb}
+use lib.ListN.{length, drop}
 use Rattle.numbers.specs.Pick.{pick}
 use Rattle.numbers.specs.Answer.{Answer, answered, refused}
+
+-- three buffers, ids, masks and values, are of one length
+abbrev pub level : List ℕ → List ℕ → List ℕ → Bool
+level is ms vs = eqb (length is) (length ms) && eqb (length is) (length vs)
 
 -- a refusal stands, else the answer is what follows
 abbrev pub andThen : Answer → Answer → Answer
@@ -17,5 +22,5 @@ ifRoom number need room = pick (leb need room) (answered need) (refused number n
 
 -- what is put stands at the space's start, and the space past it keeps its contents; on a refusal all of it does
 abbrev pub spaceAfter : Answer → List ℕ → List ℕ → List ℕ
-spaceAfter (answered n) l old = l ++ drop n old
+spaceAfter (answered n) l old = l ++ drop (length l) old
 spaceAfter (refused r p) l old = old

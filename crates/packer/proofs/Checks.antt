@@ -9,27 +9,16 @@ use lib.ListN.{length, getD, drop, drop-of-length-le}
 use borrow.Author.Tests.{eqb-true, leb-true, le-leb, lt-leb, ltb-false, le-ltb, eq-eqb}
 use Rattle.numbers.specs.Pick.{pick}
 use Rattle.numbers.specs.Answer.{answered, refused, unlessFault}
-use Rattle.numbers.proofs.Tests.{and-true}
+use Rattle.numbers.specs.Room.{level}
 use Rattle.numbers.proofs.Answers.{told-apart, unless-refuses, unless-answered}
+use Rattle.numbers.proofs.Room.{level-lengths, lengths-level}
 use Rattle.words.specs.Writes.{Write, faultOf, allowed}
 use Rattle.words.proofs.Laws.{allowed-fault}
 use Rattle.runs.specs.PackedList.{writes, Packable, PackableRun}
 use Rattle.runs.proofs.Writes.{writes-length, writes-at}
 use Rattle.packer.specs.Checks.{wrong, firstWrong, checkAnswer}
 
--- three buffers of one length
-abbrev pub level : List ℕ → List ℕ → List ℕ → Bool
-level is ms vs = eqb (length is) (length ms) && eqb (length is) (length vs)
-
 module _ (is ms vs : List ℕ) where
-  pub level-lengths : level is ms vs ≡ true → (length is ≡ length ms) × (length is ≡ length vs)
-  level-lengths t =
-      let b = and-true (eqb (length is) (length ms)) (eqb (length is) (length vs)) t in
-      (eqb-true _ _ (b .0), eqb-true _ _ (b .1))
-
-  pub lengths-level : length is ≡ length ms → length is ≡ length vs → level is ms vs ≡ true
-  lengths-level e f = rw (eq-eqb _ _ e, eq-eqb _ _ f)
-
   -- THE TESTS, in their order
   pub check-lengths : level is ms vs ≡ false → checkAnswer is ms vs ≡ refused 7 0
   unfolding checkAnswer

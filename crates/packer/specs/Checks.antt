@@ -1,11 +1,11 @@
 -- What is wrong with the writes given: 7, 8, then each write in order for 9, 3, 4, 5 with its index.
-use mathlib.Core.Bool.{_&&_}
 use mathlib.Core.List.{List, [], _∷_}
 use Prim.Native.Nat.{ℕ, _+_}
-use lib.Dec.{ltb, leb, eqb}
+use lib.Dec.{ltb, leb}
 use lib.ListN.{length}
 use Rattle.numbers.specs.Pick.{pick}
 use Rattle.numbers.specs.Answer.{Answer, answered, refused, unlessFault}
+use Rattle.numbers.specs.Room.{level}
 use Rattle.words.specs.Writes.{Write, faultOf}
 use Rattle.runs.specs.PackedList.{writes}
 use Rattle.packer.specs.declared.Checked.{Checked}
@@ -23,7 +23,7 @@ firstWrong i (w ∷ ws) = let rest = firstWrong (i + 1) ws in unlessFault (wrong
 -- 7 the lengths differ, 8 over 4,096 writes, then the writes
 unfoldable pub checkAnswer : List ℕ → List ℕ → List ℕ → Answer
 checkAnswer is ms vs =
-    pick (eqb (length is) (length ms) && eqb (length is) (length vs))
+    pick (level is ms vs)
     (pick (leb (length is) 4096) (firstWrong 0 (writes is ms vs)) (refused 8 0))
     (refused 7 0)
 

@@ -9,9 +9,10 @@ use lib.ListN.{length}
 use borrow.Author.Tests.{ltb-true, leb-true, eqb-true}
 use Rattle.numbers.specs.Pick.{pick}
 use Rattle.numbers.specs.Answer.{Answer, answered, refused, unlessFault}
-use Rattle.numbers.specs.Room.{andThen, ifRoom}
+use Rattle.numbers.specs.Room.{level, andThen, ifRoom}
 use Rattle.numbers.proofs.Tests.{and-true}
 use Rattle.numbers.proofs.Picks.{pick-either}
+use Rattle.numbers.proofs.Room.{level-lengths}
 use Rattle.words.specs.Header.{countOf, wordsOf}
 use Rattle.words.specs.Writes.{Write}
 use Rattle.words.specs.Commands.{headerAt, whole, expand, places, commands, expansion}
@@ -133,7 +134,7 @@ by-lengths l room false b e = omega arith
 pub writes-uncut : (l is ms vs : List ℕ) → valueIn (writesAnswer l is ms vs) ≤ 65536
 unfolding writesAnswer
 writes-uncut l is ms vs =
-    by-lengths l (length is) (eqb (length is) (length ms) && eqb (length is) (length vs)) (leb (length l) 65536) refl
+    by-lengths l (length is) (level is ms vs) (leb (length l) 65536) refl
 
 -- PACKING
 
@@ -148,18 +149,18 @@ wrong-uncut i (w ∷ ws) =
     unless-wrong (wrong (w .id) (w .mask)) i (i + suc (length ws)) (firstWrong (i + 1) ws) (omega arith)
     (omega (arith, wrong-uncut (i + 1) ws))
 
-by-level : (is ms vs : List ℕ) (a b : Bool) → (eqb (length is) (length ms) && eqb (length is) (length vs)) ≡ a → leb (length is) 4096 ≡ b
+by-level : (is ms vs : List ℕ) (a b : Bool) → level is ms vs ≡ a → leb (length is) 4096 ≡ b
     → valueIn (pick a (pick b (firstWrong 0 (writes is ms vs)) (refused 8 0)) (refused 7 0)) ≤ 65536
 by-level is ms vs true true e f =
-    let g = and-true (eqb (length is) (length ms)) (eqb (length is) (length vs)) e in
-    let n = writes-length is ms vs (eqb-true _ _ (g .0)) (eqb-true _ _ (g .1)) in
+    let g = level-lengths is ms vs e in
+    let n = writes-length is ms vs (g .0) (g .1) in
     let few : length is ≤ 4096 = leb-true _ _ f in omega (arith, wrong-uncut 0 (writes is ms vs), n)
 by-level is ms vs true false e f = omega arith
 by-level is ms vs false b e f = omega arith
 
 check-uncut : (is ms vs : List ℕ) → valueIn (checkAnswer is ms vs) ≤ 65536
 unfolding checkAnswer
-check-uncut is ms vs = by-level is ms vs (eqb (length is) (length ms) && eqb (length is) (length vs)) (leb (length is) 4096) refl refl
+check-uncut is ms vs = by-level is ms vs (level is ms vs) (leb (length is) 4096) refl refl
 
 by-check : (is ms vs : List ℕ) (room : ℕ) (a : Answer) → checkAnswer is ms vs ≡ a
     → valueIn (andThen a (ifRoom 10 (length (packed (writes is ms vs))) room)) ≤ 65536

@@ -28,7 +28,7 @@ abbrev pub AllTidy : List ℕ → List ℕ → Type 0
 AllTidy l [] = Unit {0}
 AllTidy l (p ∷ ps) = Tidy l p × AllTidy l ps
 
--- a list is accepted, and says a run
+-- a list has a verdict that accepts it, and says a run; over 65,536 words a reading refuses it all the same
 pub record Says (ws : List Write) (l : List ℕ) : Type 0 where
   pub accepted : verdict l ≡ answered (length ws)
   pub writes : expansion l ≡ ws

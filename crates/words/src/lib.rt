@@ -5,7 +5,7 @@ ghost use Rattle.words.specs.Header.{idOf, maskOf, countOf, stepOf, word
 ghost use Rattle.words.specs.Taken.{headOf, told, headNumbers, refusalIn};
 ghost use Rattle.words.specs.Writes.{faultOf};
 
-// A refusal: its number, of the table "Numbers given back", and its place.
+// A refusal: its number, of the table "Numbers given back" and for 22 of document 02, and its place.
 pub struct Refusal {
     pub number: u32,
     pub place: usize,
@@ -37,7 +37,7 @@ pub const CODE_WITHOUT_NAME: u32 = 13;
 
 pub const NOT_BUILT: u32 = 14;
 
-pub const NO_ROOM_FOR_WRITES: u32 = 22;
+pub const TOO_FEW_PLACES: u32 = 22;
 
 // The parts of a header: count is the number of extra parameters, step 1 where ids rise.
 pub struct Header {

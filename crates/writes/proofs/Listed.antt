@@ -1,23 +1,18 @@
 -- What is answered for the writes of a list and what the buffers then hold, by the tests that code makes. Assumes nothing.
 use mathlib.Core.Path.{_≡_, refl, sym, _∙_}
-use mathlib.Core.Bool.{Bool, true, false, _&&_}
+use mathlib.Core.Bool.{true, false}
 use mathlib.Core.List.{List, _++_}
 use Prim.Native.Nat.{ℕ, _≤_, _<_}
-use lib.Dec.{eqb}
-use lib.ListN.{length, drop}
+use lib.ListN.{length, drop, length-map}
 use borrow.Author.Tests.{le-leb, lt-leb}
 use Rattle.numbers.specs.Answer.{Answer, answered, refused}
-use Rattle.numbers.specs.Room.{ifRoom}
+use Rattle.numbers.specs.Room.{level, ifRoom}
 use Rattle.numbers.proofs.Room.{room-enough, room-short}
-use Rattle.words.specs.Writes.{idsIn, masksIn, valuesIn}
+use Rattle.words.specs.Writes.{Write, idsIn, masksIn, valuesIn}
 use Rattle.words.specs.Commands.{expansion}
 use Rattle.reader.specs.ListVerdict.{verdict}
 use Rattle.reader.proofs.Accepted.{verdict-accepted}
 use Rattle.writes.specs.Listed.{writesAnswer, writesIds, writesMasks, writesValues}
-
--- three buffers of one length
-abbrev pub level : List ℕ → List ℕ → List ℕ → Bool
-level is ms vs = eqb (length is) (length ms) && eqb (length is) (length vs)
 
 -- for the list l, lent is, ms and vs, the answer is a and the buffers are then these
 pub record Listing (l is ms vs : List ℕ) (a : Answer) (is′ ms′ vs′ : List ℕ) : Type 0 where
@@ -59,5 +54,11 @@ module _ (l is ms vs : List ℕ) where
             → (vs′ ≡ valuesIn (expansion l) ++ drop (length (expansion l)) vs) → Listing l is ms vs (answered n) is′ ms′ vs′
         room k is′ ms′ vs′ a b c =
             let e = by-room (answered n) (λ e. room-enough 22 (length (expansion l)) (length is) n e k) in
-            let z = verdict-accepted l n v .2 in
-            record { answer = e; ids = rw (← e, z) a; masks = rw (← e, z) b; values = rw (← e, z) c }
+            let E = expansion l in (
+            record {
+              answer = e;
+              ids = rw (← e, length-map E (λ (w : Write). w .id)) a;
+              masks = rw (← e, length-map E (λ (w : Write). w .mask)) b;
+              values = rw (← e, length-map E (λ (w : Write). w .value)) c;
+            }
+            )

@@ -1,13 +1,12 @@
--- What is answered for the writes of a list, and what the three buffers then hold. Not of the document, which defines the expansion and
--- gives no call for it; 22 is our number here.
-use mathlib.Core.Bool.{_&&_}
+-- What is answered for the writes of a list, and what the three buffers then hold. The call is ours: document 01 defines the expansion
+-- and has no call that gives it. 22 is the number that document 02 gives too few places, for text; we take it here too.
 use mathlib.Core.List.{List}
 use Prim.Native.Nat.{ℕ}
-use lib.Dec.{leb, eqb}
+use lib.Dec.{leb}
 use lib.ListN.{length}
 use Rattle.numbers.specs.Pick.{pick}
 use Rattle.numbers.specs.Answer.{Answer, refused}
-use Rattle.numbers.specs.Room.{andThen, ifRoom, spaceAfter}
+use Rattle.numbers.specs.Room.{level, andThen, ifRoom, spaceAfter}
 use Rattle.words.specs.Writes.{idsIn, masksIn, valuesIn}
 use Rattle.words.specs.Commands.{expansion}
 use Rattle.reader.specs.ListVerdict.{verdict}
@@ -16,7 +15,7 @@ use Rattle.reader.specs.ListVerdict.{verdict}
 -- the commands'; then the number of its writes where there are places for them, else 22 with the places needed
 unfoldable pub writesAnswer : List ℕ → List ℕ → List ℕ → List ℕ → Answer
 writesAnswer l is ms vs =
-    pick (eqb (length is) (length ms) && eqb (length is) (length vs))
+    pick (level is ms vs)
     (pick (leb (length l) 65536) (andThen (verdict l) (ifRoom 22 (length (expansion l)) (length is))) (refused 1 0))
     (refused 7 0)
 

@@ -223,7 +223,7 @@ pub fn writes_of(
     };
     if room < n {
         return ListVerdict::Refused(Refusal {
-            number: words::NO_ROOM_FOR_WRITES,
+            number: words::TOO_FEW_PLACES,
             place: n,
         });
     }

@@ -8,7 +8,9 @@ use borrow.Author.Tests.{not-true, not-false}
 use borrow.Author.Needs.{needs}
 use Rattle.runs.specs.PackedList.{writes}
 use Rattle.packer.specs.Checks.{firstWrong, checkAnswer}
-use Rattle.packer.proofs.Checks.{level, level-lengths, check-lengths, check-many, check-writes, wrong-none, wrong-here, wrong-end}
+use Rattle.numbers.specs.Room.{level}
+use Rattle.numbers.proofs.Room.{level-lengths}
+use Rattle.packer.proofs.Checks.{check-lengths, check-many, check-writes, wrong-none, wrong-here, wrong-end}
 use Rattle.packer.proofs.check.Statement.{statement}
 use Rattle.packer.proofs.check.Tie as tie
 

@@ -7,7 +7,8 @@ use lib.ListN.{length, drop}
 use borrow.Author.Needs.{needs}
 use Rattle.runs.specs.PackedList.{writes}
 use Rattle.packer.specs.Checks.{firstWrong}
-use Rattle.packer.proofs.Checks.{lengths-level, wrong-none, wrong-end}
+use Rattle.numbers.proofs.Room.{lengths-level}
+use Rattle.packer.proofs.Checks.{wrong-none, wrong-end}
 use Rattle.packer.proofs.count_wrong.Statement.{statement}
 use Rattle.packer.proofs.count_wrong.Tie as tie
 

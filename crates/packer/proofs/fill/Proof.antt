@@ -56,7 +56,7 @@ returns-2 c =
     let p = o .ensures (a .values .now) (b .pre .0 .values) in
     let ws = writes (a .ids .now) (a .masks .now) (a .values .now) in
     let e = p .words ∙ sym (packed-length ws) in
-    (room-enough 10 (length (packed ws)) _ _ e (c .before .before .before .before .before .if1 .left), rw e (c .before .before .lay-out .ensures))
+    (room-enough 10 (length (packed ws)) _ _ e (c .before .before .before .before .before .if1 .left), c .before .before .lay-out .ensures)
 
 pub fill-spec : {M : Type 1} → statement M
 fill-spec =
