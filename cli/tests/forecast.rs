@@ -87,9 +87,9 @@ fn what_is_left_out_is_said() {
             .split(' ')
             .collect::<Vec<_>>()
     );
-    assert!(
-        ran.out.contains("/jump              ")
-            || figures(&ran.out, "/jump")[..3] == ["refused", "4", "at"]
+    assert_eq!(
+        figures(&ran.out, "/jump")[..5],
+        ["refused", "4", "at", "word", "0,"]
     );
     assert_eq!(figures(&ran.out, "/cut")[..2], ["unreadable:", "ends"]);
     assert!(!ran.out.contains("replayed"));

@@ -6,7 +6,7 @@ use std::ffi::OsStr;
 use std::fs;
 use std::path::Path;
 
-use common::{apart, bytes_of, example, pica, pica_fed, shell, Folder, Random};
+use common::{apart, bytes_of, command, example, pica, pica_fed, shell, Folder, Random};
 
 fn writes(path: &Path) -> String {
     let ran = pica(&[OsStr::new("writes"), path.as_os_str()]);
@@ -162,11 +162,21 @@ fn more_than_a_list_can_say_is_refused() {
 
 #[test]
 fn a_list_isnt_printed_on_a_terminal() {
-    // `script` gives the command a terminal; without it there is nothing to test
-    let script = "command -v script > /dev/null || { echo 'give --out'; exit 2; }; \
-                  script -qec \"'$0' pack '$1'\" /dev/null < /dev/null";
     let folder = Folder::new("writes-terminal");
-    let ran = shell(script, &[folder.bytes("a.csv", b"41,F,1\n").as_os_str()]);
-    assert_eq!(ran.status, Some(2));
-    assert!(ran.out.contains("give --out"), "{}", ran.out);
+    let path = folder.bytes("a.csv", b"41,F,1\n");
+    let terminal = fs::OpenOptions::new()
+        .read(true)
+        .write(true)
+        .open("/dev/ptmx")
+        .unwrap();
+    let ran = command(&[OsStr::new("pack"), path.as_os_str()])
+        .stdout(terminal)
+        .output()
+        .unwrap();
+    assert_eq!(ran.status.code(), Some(2));
+    let told = String::from_utf8(ran.stderr).unwrap();
+    assert!(
+        told.contains("prints no list on a terminal: give --out FILE.bin"),
+        "{told}"
+    );
 }
