@@ -193,14 +193,13 @@ fn json_says_the_same_as_csv() {
 fn by_the_library(bytes: &[u8]) -> [String; 4] {
     let word = |four: &[u8]| u32::from_le_bytes([four[0], four[1], four[2], four[3]]);
     let words: Vec<u32> = bytes.chunks_exact(4).map(word).collect();
-    let row = match pica::State::default().read(&words) {
+    match pica::State::default().read(&words) {
         _ if bytes.len() % 4 != 0 => ["unreadable", "", "", ""].map(String::from),
         Ok(writes) => ["ok", &writes.to_string(), "", ""].map(String::from),
         Err(pica::Refusal { number, place }) => {
             ["refused", "", &number.to_string(), &place.to_string()].map(String::from)
         }
-    };
-    row
+    }
 }
 
 #[test]
