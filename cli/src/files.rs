@@ -84,7 +84,12 @@ impl Target {
             self.refuse_what_is_there()?;
             File::create_new(&self.path).map_err(|error| self.lost(&error))?;
         }
-        fs::rename(finished, &self.path).map_err(|error| self.lost(&error))
+        fs::rename(finished, &self.path).map_err(|error| {
+            if !self.force {
+                let _ = fs::remove_file(&self.path);
+            }
+            self.lost(&error)
+        })
     }
 
     fn refuse_what_is_there(&self) -> Result<(), Failure> {

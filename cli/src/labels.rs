@@ -1,7 +1,6 @@
 //! The names beside a picture's bars.
 
-use crate::input::on_one_line;
-use crate::text::shortened;
+use crate::text::{on_one_line, shortened};
 
 /// As many letters as there is room for.
 const LETTERS_MOST: usize = 34;

@@ -59,8 +59,9 @@ fn the_version_is_that_of_the_header() {
 
 #[test]
 fn wrong_usage_says_what_to_do() {
-    let cases: [(&[&str], &str); 12] = [
+    let cases: [(&[&str], &str); 13] = [
         (&["jugde"], "did you mean `pica judge`?"),
+        (&["\u{1b}[31m"], "there is no subcommand \\u{1b}[31m: "),
         (&["dance"], "`pica --help` lists the subcommands"),
         (&["help", "forcast"], "did you mean `pica forecast`?"),
         (&["--csv"], "the subcommand comes first"),
