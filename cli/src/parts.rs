@@ -140,8 +140,8 @@ mod tests {
 
     #[test]
     fn a_long_run_is_cut_where_no_command_goes_across() {
-        // 2, 2, 2, 5, 5, 5 and so on: a command carries three, so that every third place is a seam that costs nothing
-        let long = run((0..4098).map(|k| if k / 3 % 2 == 0 { 2 } else { 5 }));
+        // 2, 2, 2, 4, 4, 4 and so on: a command carries three, so that every third place is a seam that costs nothing
+        let long = run((0..4098).map(|k| if k / 3 % 2 == 0 { 2 } else { 4 }));
         assert_eq!(ends(&long), [4095, 4098]);
         assert_eq!(
             long.shortest(u64::MAX),
@@ -152,11 +152,11 @@ mod tests {
         );
         // there is no room to cut elsewhere: 4,096 is no such place
         assert_eq!(
-            ends(&run((0..8192).map(|k| if k / 3 % 2 == 0 { 2 } else { 5 }))),
+            ends(&run((0..8192).map(|k| if k / 3 % 2 == 0 { 2 } else { 4 }))),
             [4096, 8192]
         );
         assert_eq!(
-            ends(&run((0..8190).map(|k| if k / 3 % 2 == 0 { 2 } else { 5 }))),
+            ends(&run((0..8190).map(|k| if k / 3 % 2 == 0 { 2 } else { 4 }))),
             [4095, 8190]
         );
         // one id all along can be cut nowhere without loss: commands of 255 writes take 256 words, so that the first part takes

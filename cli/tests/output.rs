@@ -241,3 +241,27 @@ fn a_refused_list_leaves_no_file() {
     assert_eq!(ran.status, Some(2));
     assert_eq!(names(&folder), ["bad.csv"]);
 }
+
+#[test]
+fn a_file_that_cannot_be_finished_is_taken_away() {
+    let folder = Folder::new("output-unfinished");
+    let (out, list) = (folder.path("out.csv"), example("triangle-state.bin"));
+    // no file may be over 1,024 bytes, which is told like a full disk
+    let script = "trap '' XFSZ; ulimit -f 1; \"$0\" writes \"$1\" --out \"$2\" ${3:+\"$3\"}";
+    let ran = shell(script, &[list.as_os_str(), out.as_os_str()]);
+    assert_eq!(ran.status, Some(2));
+    assert!(
+        ran.err.contains("out.csv can't be written: File too large"),
+        "{}",
+        ran.err
+    );
+    assert!(names(&folder).is_empty());
+    folder.bytes("out.csv", b"old");
+    let ran = shell(
+        script,
+        &[list.as_os_str(), out.as_os_str(), OsStr::new("--force")],
+    );
+    assert_eq!(ran.status, Some(2));
+    assert_eq!(names(&folder), ["out.csv"]);
+    assert_eq!(fs::read(&out).unwrap(), b"old");
+}
