@@ -265,3 +265,25 @@ fn a_file_that_cannot_be_finished_is_taken_away() {
     assert_eq!(names(&folder), ["out.csv"]);
     assert_eq!(fs::read(&out).unwrap(), b"old");
 }
+
+#[test]
+fn a_name_may_be_as_long_as_names_can_be() {
+    let folder = Folder::new("output-long-name");
+    for args in writing(&folder) {
+        let path = folder.path("x".repeat(255));
+        assert_eq!(
+            pica(&[args.as_slice(), &[path.clone().into()]].concat()).status,
+            Some(0)
+        );
+        fs::remove_file(path).unwrap();
+        let longer = folder.path("x".repeat(256));
+        let ran = pica(&[args.as_slice(), &[longer.into()]].concat());
+        assert_eq!((ran.status, ran.out.as_str()), (Some(2), ""));
+        assert!(
+            ran.err.contains("can't be written: File name too long"),
+            "{}",
+            ran.err
+        );
+        assert_eq!(names(&folder), ["in"]);
+    }
+}

@@ -149,6 +149,9 @@ fn pica_says_why_it_cannot_build() {
     fs::remove_file(folder.path("bin/rt")).unwrap();
     let told = failed();
     assert!(told.contains("building the library needs `rt`"), "{told}");
+    fs::remove_dir_all(folder.path("target")).unwrap();
+    folder.bytes("target", b"in the way");
+    failed();
 }
 
 /// An `rt` that makes a program which says `refused` of what begins with r, `input` of an odd number of bytes, else `ok`.
