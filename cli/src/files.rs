@@ -84,25 +84,37 @@ impl Target {
             self.refuse_what_is_there()?;
             File::create_new(&self.path).map_err(|error| self.lost(&error))?;
         }
-        fs::rename(finished, &self.path).map_err(|error| self.lost(&error))
+        fs::rename(finished, &self.path).map_err(|error| {
+            if !self.force {
+                let _ = fs::remove_file(&self.path);
+            }
+            self.lost(&error)
+        })
     }
 
     fn refuse_what_is_there(&self) -> Result<(), Failure> {
-        if self.force || fs::symlink_metadata(&self.path).is_err() {
-            return Ok(());
+        match fs::symlink_metadata(&self.path) {
+            Err(error) if error.kind() == ErrorKind::NotFound => Ok(()),
+            Err(error) => Err(self.lost(&error)),
+            Ok(_) if self.force => Ok(()),
+            Ok(_) => {
+                Err(self.stopped("is there already: give another name, or --force to overwrite it"))
+            }
         }
-        Err(self.stopped("is there already: give another name, or --force to overwrite it"))
     }
 
-    /// A new file beside the target.
+    /// A new file beside the target. Its name is short, because the target's may be as long as a name can be, and where an earlier
+    /// run was ended and has left one, another is taken.
     fn beside(&self) -> Result<(PathBuf, File), Failure> {
-        let mut name = self.path.file_name().unwrap_or_default().to_owned();
-        name.push(format!(".unfinished-{}", std::process::id()));
-        let path = self.path.with_file_name(name);
-        match File::create_new(&path) {
-            Ok(file) => Ok((path, file)),
-            Err(error) => Err(self.lost(&error)),
-        }
+        let name = |k| format!(".pica-unfinished-{}-{k}", std::process::id());
+        let mut made = (0..9).map(|k| {
+            let path = self.path.with_file_name(name(k));
+            File::create_new(&path).map(|file| (path, file))
+        });
+        let is_taken = |made: &io::Result<_>| matches!(made, Err(error) if error.kind() == ErrorKind::AlreadyExists);
+        let first = made.find(|made| !is_taken(made));
+        let first = first.unwrap_or_else(|| Err(ErrorKind::AlreadyExists.into()));
+        first.map_err(|error| self.lost(&error))
     }
 
     fn lost(&self, error: &io::Error) -> Failure {

@@ -120,10 +120,13 @@ fn forecast_all(
             found: figures(entry),
         };
         totals.add(&row);
-        progress.clear();
+        if out.is_terminal() {
+            progress.clear();
+        }
         out.line(&table.row(&row))?;
         rows.push(row);
     }
+    progress.clear();
     if rows.len() > 1 {
         writeln!(out, "{}", table.foot(&totals))?;
     }

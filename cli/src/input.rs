@@ -11,6 +11,7 @@ use pica::LIST_LENGTH_MOST;
 
 use crate::closed;
 use crate::status::{note, plain};
+use crate::text::on_one_line;
 
 /// The most bytes that a list may have.
 pub const BYTES_MOST: u64 = 4 * LIST_LENGTH_MOST as u64;
@@ -229,17 +230,4 @@ fn inside(folder: &Path) -> io::Result<Vec<PathBuf>> {
 /// A path as text on one line.
 pub fn shown(path: impl AsRef<OsStr>) -> String {
     on_one_line(&path.as_ref().to_string_lossy())
-}
-
-/// Control characters escaped: a name with a line's end in it can't pass for two, nor can one steer a terminal.
-pub fn on_one_line(text: &str) -> String {
-    let mut line = String::with_capacity(text.len());
-    for letter in text.chars() {
-        if letter.is_control() {
-            line.extend(letter.escape_default());
-        } else {
-            line.push(letter);
-        }
-    }
-    line
 }

@@ -3,13 +3,13 @@
 use std::ffi::OsString;
 use std::io::Write;
 
-use crate::input::{entries, on_one_line, Entry};
+use crate::input::{entries, Entry};
 use crate::json::{object, Value};
 use crate::lists::{self, List, Problem};
 use crate::options::{parse, wrong, Known};
 use crate::output::Output;
 use crate::status::{note, Failure, Outcome, Status};
-use crate::text::grouped;
+use crate::text::{grouped, on_one_line};
 use crate::{csv, refusals};
 
 pub const SUMMARY: &str = "accepts or refuses lists, and says why";

@@ -4,8 +4,8 @@ use std::io::{self, BufRead, BufReader, Read};
 
 use pica::{Write, LIST_LENGTH_MOST};
 
-use crate::input::{on_one_line, Reason};
-use crate::text::{grouped, shortened};
+use crate::input::Reason;
+use crate::text::{grouped, on_one_line, shortened};
 use crate::writes::HEADER;
 
 /// A write, and its line's number from 1.

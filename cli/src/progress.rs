@@ -36,9 +36,10 @@ impl Progress {
         }
     }
 
-    /// Takes the bar away, before a line is printed and at the end.
+    /// Takes the bar away, before a line is printed on the same terminal and at the end. It comes back when it is shown again.
     pub fn clear(&mut self) {
         if std::mem::take(&mut self.is_drawn) {
+            self.next = Some(Instant::now());
             let _ = write!(io::stderr(), "\r\x1b[K");
         }
     }

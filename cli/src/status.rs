@@ -1,7 +1,9 @@
 //! How a run ends: the exit status, and what is said of a run that couldn't go on.
 
-use std::io;
+use std::io::{self, Write};
 use std::process::ExitCode;
+
+use crate::text::on_one_line;
 
 /// The exit status; the worst of a batch counts.
 #[derive(Clone, Copy, Debug, PartialEq, Eq, PartialOrd, Ord)]
@@ -61,8 +63,7 @@ fn tell(failure: &Failure) {
 
 /// A line on standard error. Where that is closed too there is nobody left to tell.
 pub fn note(what: &str) {
-    use io::Write;
-    let _ = writeln!(io::stderr(), "pica: {what}");
+    let _ = writeln!(io::stderr(), "pica: {}", on_one_line(what));
 }
 
 /// An error of the system in words, without its number.

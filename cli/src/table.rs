@@ -3,9 +3,8 @@
 use pica::LIST_LENGTH_MOST;
 
 use crate::figures::{Figures, Row, Totals};
-use crate::input::on_one_line;
 use crate::rate::Rate;
-use crate::text::{grouped, percent, shortened};
+use crate::text::{grouped, on_one_line, percent, shortened};
 
 /// Longer names are shortened.
 const NAME_MOST: usize = 48;

@@ -33,6 +33,19 @@ pub fn shortened(name: &str, most: usize) -> String {
     head.iter().chain(&['.', '.']).chain(tail).collect()
 }
 
+/// Control characters escaped: a name with a line's end in it can't pass for two, nor can one steer a terminal.
+pub fn on_one_line(text: &str) -> String {
+    let mut line = String::with_capacity(text.len());
+    for letter in text.chars() {
+        if letter.is_control() {
+            line.extend(letter.escape_default());
+        } else {
+            line.push(letter);
+        }
+    }
+    line
+}
+
 #[cfg(test)]
 mod tests {
     use super::*;
