@@ -134,7 +134,7 @@ static int compare_lists(void) {
     for (unsigned k = 0; k < LISTS; k++) {
         random_list(&list);
         uint64_t asked = plain.writes(list.words, list.length, NULL, 0, NULL, 0, NULL, 0);
-        size_t needed = pica_number(asked) == PICA_NO_ROOM_FOR_WRITES ? pica_value(asked) : list.length, room = needed;
+        size_t needed = pica_number(asked) == PICA_TOO_FEW_PLACES ? pica_value(asked) : list.length, room = needed;
         if (below(2)) room = below(4) ? list.length : below((uint32_t)needed + 1);
         size_t n[3] = {room, room, room}, second = room + BETWEEN, third = 2 * second;
         if (below(64) == 0 && room > 0) n[below(3)]--;

@@ -52,7 +52,7 @@ uint64_t plain_writes(const uint32_t *list, size_t list_length, uint32_t *ids, s
     if (list_length > PICA_LIST_LENGTH_MOST) return plain_refused(PICA_LIST_TOO_LONG, 0);
     uint64_t answer = judge(list, list_length);
     if (pica_number(answer)) return answer;
-    if (pica_value(answer) > ids_length) return plain_refused(PICA_NO_ROOM_FOR_WRITES, pica_value(answer));
+    if (pica_value(answer) > ids_length) return plain_refused(PICA_TOO_FEW_PLACES, pica_value(answer));
     put((struct places){ids, masks, values}, list, pica_value(answer));
     return answer;
 }

@@ -94,7 +94,7 @@ enum pica_refusal {
     PICA_DEPTH_ABOVE_LARGEST = 12, /* a depth above 65,535 for depth format 0, above 16,777,215 for any other */
     PICA_CODE_WITHOUT_NAME = 13,   /* a register holds a code that has no name */
     PICA_NOT_BUILT = 14,           /* E0h, 100h or 117h asks for what is not built */
-    PICA_NO_ROOM_FOR_WRITES = 22   /* the buffers have fewer places than the list has writes */
+    PICA_TOO_FEW_PLACES = 22       /* the buffers have fewer places than the list has writes */
 };
 
 /* What became of a fragment. */
@@ -139,7 +139,8 @@ uint64_t pica_write(uint32_t *cells, size_t cells_length, uint32_t *fog, size_t 
 
 /*
  * Gives the writes of a list of command words, in their order: write k sets the bytes masks[k] of register ids[k] to those of
- * values[k]. They are what pica_pack takes, so that this call and that one forecast how short a captured list can be.
+ * values[k]. Up to 4,096 of them are what pica_pack takes, so that this call and that one forecast how short a
+ * captured list can be; more are packed in parts.
  *
  * Answers the number of writes.
  * Refuses, in this order:

@@ -358,7 +358,7 @@ static inline const char *pica_refusal_name(uint32_t number) {
     case 12: return "DEPTH_ABOVE_LARGEST";
     case 13: return "CODE_WITHOUT_NAME";
     case 14: return "NOT_BUILT";
-    case 22: return "NO_ROOM_FOR_WRITES";
+    case 22: return "TOO_FEW_PLACES";
     default: return NULL;
     }
 }
@@ -379,7 +379,7 @@ static inline const char *pica_refusal_text(uint32_t number) {
     case 12: return "a depth above the format's largest: place 0 incoming, 1 stored";
     case 13: return "a code without a name, at the register whose id is the place";
     case 14:
-        return "not built, at the register whose id is the place: E0 fog mode not 0; 100 mode not 0, bit 8, 24 or 25 set; 117 other than 2";
+        return "not built, at the register whose id is the place: E0 fog mode not 0; 100 mode not 0, bit 8, 24 or 25; 117 not size 2, format 0";
     case 22: return "the buffers have fewer places than the list has writes";
     default: return NULL;
     }

@@ -1,10 +1,9 @@
 //! A list that is read and judged: its words and writes, or what is wrong with it.
 
-use pica::{Refusal, Write};
+use pica::{writes_of, Refusal, Write};
 
 use crate::input::{Entry, Fault, Reason};
 use crate::refusals;
-use crate::standin::writes_of;
 use crate::status::Status;
 
 /// An accepted list.

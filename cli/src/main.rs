@@ -23,7 +23,6 @@ mod progress;
 mod rate;
 mod refusals;
 mod show;
-mod standin;
 mod status;
 mod svg;
 mod table;

@@ -51,7 +51,7 @@ impl Refusal {
     /// Not built; the place is the lowest id of a register that asks for it.
     pub const NOT_BUILT: u32 = 14;
     /// The buffers have fewer places than the list has writes; the place is the places needed.
-    pub const NO_ROOM_FOR_WRITES: u32 = 22;
+    pub const TOO_FEW_PLACES: u32 = 22;
 
     /// What was wrong, without the place.
     #[must_use]
@@ -72,7 +72,7 @@ impl fmt::Display for Refusal {
             }
             Self::MASK_ABOVE_15 => write!(f, ", write {place}"),
             Self::NO_ROOM => write!(f, ", {place} words needed"),
-            Self::NO_ROOM_FOR_WRITES => write!(f, ", {place} places needed"),
+            Self::TOO_FEW_PLACES => write!(f, ", {place} places needed"),
             Self::DEPTH_ABOVE_LARGEST if place == 0 => f.write_str(", incoming"),
             Self::DEPTH_ABOVE_LARGEST => f.write_str(", stored"),
             Self::CODE_WITHOUT_NAME | Self::NOT_BUILT => write!(f, ", register {place:03X}h"),

@@ -26,7 +26,7 @@ use crate::{ffi, Refusal, Write, LIST_LENGTH_MOST};
 /// assert_eq!(values, [0xAAAA_AAAA, 0xBBBB_BBBB, 0xCCCC_CCCC, 9]);
 ///
 /// let refusal = writes(&list, &mut [], &mut [], &mut []).unwrap_err();
-/// assert_eq!(refusal, Refusal { number: Refusal::NO_ROOM_FOR_WRITES, place: 3 });
+/// assert_eq!(refusal, Refusal { number: Refusal::TOO_FEW_PLACES, place: 3 });
 /// # Ok::<(), Refusal>(())
 /// ```
 pub fn writes(
