@@ -27,15 +27,15 @@ pub const SUMMARY: &str = "what a list sets, register by register and field by f
 pub const HELP: &str = "\
 Usage: pica show FILE [--from FILE] [--all | --changes] [--entries]
 
-Shows what the list in FILE (- for standard input) sets: each register that it writes, with what is then
-held, and each of the register's fields with its number in hexadecimal, what that stands for (the code's
-name, a float's value, else the number in decimal) and what it was before, where that differs. Then the
-entries of the fog and light tables by ranges, and the registers that are written and not held, with the
-last value written. Names are those of the documents; ids are hexadecimal.
+Shows what the list in FILE (- for standard input) sets: each register that it writes, with what is
+then held, and each of the register's fields with its number in hexadecimal, what that stands for
+(the code's name, a float's value, else the number in decimal) and what it was before, where that
+differs. Then the entries of the fog and light tables by ranges, and the registers that are written
+and not held, with the last value written. Names are those of the documents; ids are hexadecimal.
 
   *            before a field or a range of entries: the list changes it
   =            the list writes it and leaves it as it was
-  --from FILE  what was before is what this list leaves in a state of zeros; without it all was zero.
+  --from FILE  what was before is what this list leaves in a state of zeros; else all was zero.
                Several lists joined are one: cat a.bin b.bin | pica show c.bin --from -
   --all        all fields, and all table entries that aren't zero
   --changes    only what the list changes
@@ -125,9 +125,14 @@ fn stopped(refusal: Refusal) -> Failure {
     ))
 }
 
+fn counted(number: usize, what: &str) -> String {
+    let ending = if number == 1 { "" } else { "s" };
+    format!("{} {what}{ending}", grouped(number as u64))
+}
+
 fn head(path: &OsStr, list: &List, from: Option<&OsStr>, out: &mut Output) -> io::Result<()> {
-    let writes = grouped(list.writes.len() as u64);
-    let words = grouped(list.words.len() as u64);
+    let writes = counted(list.writes.len(), "write");
+    let words = counted(list.words.len(), "word");
     let was = match from {
         Some(from) => format!("after {}", shown(from)),
         None => String::from("after a state of zeros"),
@@ -136,11 +141,7 @@ fn head(path: &OsStr, list: &List, from: Option<&OsStr>, out: &mut Output) -> io
         Some(remark) => format!(" ({remark})"),
         None => String::new(),
     };
-    writeln!(
-        out,
-        "{}: {writes} writes, {words} words, {was}{remark}",
-        shown(path)
-    )
+    writeln!(out, "{}: {writes}, {words}, {was}{remark}", shown(path))
 }
 
 /// Says where a code without a name keeps the state from being decoded. What is shown are then the registers' bits.
@@ -158,11 +159,11 @@ fn decoding(state: &State, out: &mut Output) -> Outcome {
     let why = if FIELDS.iter().enumerate().any(nameless) {
         "a code without a name"
     } else {
-        "an alpha mode 6 or 7, which only an RGB mode 7 allows"
+        "an alpha mode 6 or 7 without RGB mode 7"
     };
     writeln!(
         out,
-        "refused {number}: the state is not decoded, because {id:03X} {name} has {why}"
+        "refused {number}: not decoded, because {id:03X} {name} has {why}"
     )?;
     Ok(Status::Refused)
 }

@@ -4,11 +4,11 @@ use std::io::{self, Write};
 
 use pica::names::{Kind, FIELDS};
 
+use super::counted;
 use super::mark::{Mark, View};
 use super::numbers::{fog_value, light_value, significant};
 use super::trace::{Trace, TABLES, TABLE_LENGTH};
 use crate::output::Output;
-use crate::text::grouped;
 
 /// Of an entry only these bits count.
 const ENTRY_BITS: u32 = 0xFF_FFFF;
@@ -21,6 +21,8 @@ struct Table<'a> {
     /// How often each entry was written.
     writes: &'a [usize],
     value: fn(u32) -> f64,
+    /// The bits of an entry that are the difference to the next one. The documents don't say how their sign is to be read.
+    difference: fn(u32) -> u32,
 }
 
 /// Shows the tables of which there is something to show, and tells whether there was one.
@@ -31,6 +33,7 @@ pub fn show(trace: &Trace, view: View, out: &mut Output) -> io::Result<bool> {
         after: trace.after.fog(),
         writes: &trace.fog,
         value: fog_value,
+        difference: |entry| entry & 0x1FFF, // 002: bits 0-12
     };
     let mut any = fog.show(view, out)?;
     for number in 0..TABLES {
@@ -57,6 +60,7 @@ fn light(trace: &Trace, number: usize) -> Option<Table<'_>> {
         after: trace.after.light().get(entries(number))?,
         writes: trace.light.get(entries(number))?,
         value: light_value,
+        difference: |entry| entry >> 12, // 000: bits 12-23
     })
 }
 
@@ -75,17 +79,12 @@ fn nameless(trace: &Trace, number: usize, out: &mut Output) -> io::Result<bool> 
     if writes == 0 {
         return Ok(false);
     }
-    let writes = counted(writes);
+    let writes = counted(writes, "write");
     writeln!(
         out,
         "\nLight table {number:X}, which has no name: {writes}, nothing kept"
     )?;
     Ok(true)
-}
-
-fn counted(writes: usize) -> String {
-    let number = grouped(writes as u64);
-    format!("{number} write{}", if writes == 1 { "" } else { "s" })
 }
 
 impl Table<'_> {
@@ -97,7 +96,7 @@ impl Table<'_> {
         if shown.is_empty() {
             return Ok(false);
         }
-        let writes = counted(self.writes.iter().sum());
+        let writes = counted(self.writes.iter().sum(), "write");
         writeln!(out, "\n{}: {writes}", self.title)?;
         let follows = |&a: &usize, &b: &usize| b == a + 1 && self.mark(a) == self.mark(b);
         for range in shown.chunk_by(|a, b| !view.entries && follows(a, b)) {
@@ -122,6 +121,11 @@ impl Table<'_> {
         significant((self.value)(entry), 4)
     }
 
+    fn whole(&self, entry: u32) -> String {
+        let (value, difference) = (self.value(entry), (self.difference)(entry));
+        format!("{entry:06X}, value {value}, difference {difference:X}h")
+    }
+
     /// A range of entries by its ends.
     fn range(&self, first: usize, last: usize) -> String {
         if first == last {
@@ -138,10 +142,10 @@ impl Table<'_> {
 
     fn lone(&self, k: usize) -> String {
         let (mark, entry, was) = (self.mark(k), self.entry(k), self.was(k));
-        let text = format!("  {mark} {k:<9} {entry:06X}, value {}", self.value(entry));
+        let text = format!("  {mark} {k:<9} {}", self.whole(entry));
         if was == entry {
             return text;
         }
-        format!("{text:<42} was {was:06X}, value {}", self.value(was))
+        format!("{text:<58} was {}", self.whole(was))
     }
 }
