@@ -333,7 +333,7 @@ fn random_lists() {
     for round in 0..60 {
         let mut words: Vec<u32> = Vec::new();
         for _ in 0..40 {
-            let header = 15 << 16 | random() % 0x1D0 | (random() & 1) << 31;
+            let header = 0xF_0000 + random() % 0x1D0 + ((random() & 1) << 31);
             words.extend([random(), if round % 4 == 3 { random() } else { header }]);
         }
         let output = show(&["-", "--all"], &bytes(&words));
