@@ -43,43 +43,24 @@ pub struct Command {
     /// The whole help text: usage, options, an example.
     pub help: &'static str,
     /// Gets the arguments after the subcommand's name.
-    pub run: fn(&[OsString], &mut Output) -> Outcome,
+    pub run: Run,
 }
 
 /// Every subcommand. To add one: a file beside this one with `SUMMARY`, `HELP` and `run`, its `mod` line above, and a line here.
-/// `--help` is answered for it, and the exit status is that of `Outcome`.
+/// Help is answered for it, and its outcome becomes the exit status.
 pub const COMMANDS: [Command; 5] = [
-    Command {
-        name: "judge",
-        summary: judge::SUMMARY,
-        help: judge::HELP,
-        run: judge::run,
-    },
-    Command {
-        name: "forecast",
-        summary: forecast::SUMMARY,
-        help: forecast::HELP,
-        run: forecast::run,
-    },
-    Command {
-        name: "show",
-        summary: show::SUMMARY,
-        help: show::HELP,
-        run: show::run,
-    },
-    Command {
-        name: "writes",
-        summary: writes::SUMMARY,
-        help: writes::HELP,
-        run: writes::run,
-    },
-    Command {
-        name: "pack",
-        summary: pack::SUMMARY,
-        help: pack::HELP,
-        run: pack::run,
-    },
+    command("judge", judge::SUMMARY, judge::HELP, judge::run),
+    command("forecast", forecast::SUMMARY, forecast::HELP, forecast::run),
+    command("show", show::SUMMARY, show::HELP, show::run),
+    command("writes", writes::SUMMARY, writes::HELP, writes::run),
+    command("pack", pack::SUMMARY, pack::HELP, pack::run),
 ];
+
+type Run = fn(&[OsString], &mut Output) -> Outcome;
+
+const fn command(name: &'static str, summary: &'static str, help: &'static str, run: Run) -> Command {
+    Command { name, summary, help, run }
+}
 
 fn main() -> ExitCode {
     let args: Vec<OsString> = std::env::args_os().skip(1).collect();
