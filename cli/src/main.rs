@@ -58,8 +58,18 @@ pub const COMMANDS: [Command; 5] = [
 
 type Run = fn(&[OsString], &mut Output) -> Outcome;
 
-const fn command(name: &'static str, summary: &'static str, help: &'static str, run: Run) -> Command {
-    Command { name, summary, help, run }
+const fn command(
+    name: &'static str,
+    summary: &'static str,
+    help: &'static str,
+    run: Run,
+) -> Command {
+    Command {
+        name,
+        summary,
+        help,
+        run,
+    }
 }
 
 fn main() -> ExitCode {
