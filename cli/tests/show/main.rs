@@ -1,5 +1,8 @@
 //! `pica show` on real files: the built program is run, and what it prints is compared.
 
+mod faults;
+mod json;
+
 use std::fs;
 use std::io::Write;
 use std::path::PathBuf;
@@ -56,11 +59,11 @@ fn assert_has(lines: &[String], expected: &[&str]) {
     }
 }
 
-/// `show-triangle.txt` was compared with what `examples/README.md` says of the list, line by line.
+/// `triangle.txt` was compared with what `examples/README.md` says of the list, line by line.
 #[test]
 fn the_triangle() {
     let output = show(&["examples/triangle-state.bin"], b"");
-    let expected = include_str!("show-triangle.txt");
+    let expected = include_str!("triangle.txt");
     assert_eq!(String::from_utf8(output.stdout).unwrap(), expected);
     assert_eq!(output.status.code(), Some(0));
     assert!(expected.lines().all(|line| line.len() <= 120));
@@ -140,7 +143,9 @@ fn what_was_before() {
         "110 GPUREG_FRAMEBUFFER_INVALIDATE          00000001",
     ];
     assert_eq!(fields, expected);
-    assert!(text.starts_with(&format!("-: 4 writes, 8 words, after {first}\n")));
+    assert!(text.starts_with(&format!(
+        "-: 4 writes, 8 words, against what {first} leaves\n"
+    )));
 
     let changes = show(&["-", "--changes", "--from", &first], &second);
     let text = String::from_utf8(changes.stdout).unwrap();
@@ -152,7 +157,7 @@ fn what_was_before() {
         &fs::read(&first).unwrap(),
     );
     let text = String::from_utf8(again.stdout).unwrap();
-    assert!(text.ends_with("after -\n\nNothing that is held is changed.\n"));
+    assert!(text.ends_with("against what - leaves\n\nNothing that is held is changed.\n"));
 }
 
 #[test]
@@ -170,14 +175,14 @@ fn tables_and_their_indices() {
         "* 0-1 800002 to 800003, value 0.5 to 0.5",
         "* 126-127 800000 to 800001, value 0.5 to 0.5",
         "",
-        "Light table 2, which has no name: 1 write, nothing kept",
-        "",
         "Light table 8, SP0: 2 writes",
         "* 3-4 000800 in all of them, value 0.5",
         "",
         "Light table 17, DA7: 2 writes",
         "* 254 001800, value 0.5, difference 1h was 000000, value 0, difference 0h",
         "= 255 000000, value 0, difference 0h",
+        "",
+        "Light table 2, which has no name: 1 write, nothing kept",
     ];
     assert_eq!(lines[at.unwrap()..], expected);
     assert_has(
@@ -269,77 +274,4 @@ fn registers_that_are_not_held() {
         "280 GPUREG_GSH_BOOLUNIFORM 00007FFF mask 1 writes: 2",
     ];
     assert_eq!(lines[2..], expected);
-}
-
-/// Nothing is printed of a list that isn't read, and the status tells why.
-#[test]
-fn what_is_no_accepted_list() {
-    let cut = file("show-cut.bin", &[1, 2, 3]);
-    let fine = file("show-fine.bin", &list(&[(0x40, 15, 1)]));
-    let cases: [(&[&str], i32, &str); 6] = [
-        (&["examples/jump.bin"], 1, "refused 4 at word 2"),
-        (
-            &[&fine, "--from", "examples/jump.bin"],
-            1,
-            "refused 4 at word 2",
-        ),
-        (&["no/such.bin"], 2, "unreadable"),
-        (&[&cut], 2, "ends within a word (3 bytes)"),
-        (&["-", "--from", "-"], 2, "reads standard input once"),
-        (
-            &[&fine, "--all", "--changes"],
-            2,
-            "--all or --changes, not both",
-        ),
-    ];
-    for (args, status, message) in cases {
-        let output = show(args, b"");
-        assert_eq!(output.status.code(), Some(status), "{args:?}");
-        assert!(output.stdout.is_empty(), "{args:?}");
-        let told = String::from_utf8(output.stderr).unwrap();
-        assert!(told.contains(message), "{args:?}: {told}");
-    }
-    assert_eq!(show(&[], b"").status.code(), Some(2));
-}
-
-#[test]
-fn output_that_is_lost() {
-    let full = fs::OpenOptions::new()
-        .write(true)
-        .open("/dev/full")
-        .unwrap();
-    let mut command = Command::new(env!("CARGO_BIN_EXE_pica"));
-    let path = concat!(
-        env!("CARGO_MANIFEST_DIR"),
-        "/../examples/triangle-state.bin"
-    );
-    let status = command
-        .args(["show", path])
-        .stdout(full)
-        .stderr(Stdio::null())
-        .status();
-    assert_eq!(status.unwrap().code(), Some(2));
-}
-
-/// Any words end in a status, and never in a panic. Ids below 300 make half of the lists acceptable.
-#[test]
-fn random_lists() {
-    let mut seed = 14_u64;
-    let mut random = || {
-        seed = seed.wrapping_mul(6_364_136_223_846_793_005).wrapping_add(1);
-        (seed >> 32) as u32
-    };
-    let mut met = [0; 2];
-    for round in 0..60 {
-        let mut words: Vec<u32> = Vec::new();
-        for _ in 0..40 {
-            let header = 0xF_0000 + random() % 0x1D0 + ((random() & 1) << 31);
-            words.extend([random(), if round % 4 == 3 { random() } else { header }]);
-        }
-        let output = show(&["-", "--all"], &bytes(&words));
-        let status = output.status.code().unwrap();
-        assert!((0..=1).contains(&status), "{output:?}");
-        met[usize::from(output.stdout.is_empty())] += 1;
-    }
-    assert!(met[0] > 0 && met[1] > 0, "{met:?}");
 }
