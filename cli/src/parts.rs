@@ -30,20 +30,22 @@ impl Run {
         }
     }
 
-    /// The parts: as few as can be with cuts between writes that no command carries both, or where there are none, anywhere. Such a
-    /// cut costs nothing; any cut is right.
+    /// The parts, as few as can be. Any cut is right; between two writes that no command carries both it costs nothing, so that the
+    /// last such place is taken, as far as the parts after it then hold the rest.
     pub fn parts(&self) -> Vec<Range<usize>> {
+        let length = self.ids.len();
         let (mut parts, mut start) = (Vec::new(), 0);
-        while self.ids.len() - start > RUN_LENGTH_MOST {
+        for after in (1..length.div_ceil(RUN_LENGTH_MOST)).rev() {
             let last = start + RUN_LENGTH_MOST;
-            let apart = (last - COMMAND_MOST..=last)
+            let first = (length - after * RUN_LENGTH_MOST).max(last - COMMAND_MOST);
+            let end = (first..=last)
                 .rev()
-                .find(|&cut| self.is_apart(cut));
-            let end = apart.unwrap_or(last);
+                .find(|&cut| self.is_apart(cut))
+                .unwrap_or(last);
             parts.push(start..end);
             start = end;
         }
-        parts.push(start..self.ids.len());
+        parts.push(start..length);
         parts
     }
 
@@ -121,33 +123,46 @@ mod tests {
         Run::new(&writes)
     }
 
+    fn ends(run: &Run) -> Vec<usize> {
+        run.parts().iter().map(|part| part.end).collect()
+    }
+
     #[test]
     fn a_short_run_is_one_part_and_exact() {
-        assert_eq!(run(0..0).parts(), [0..0]);
+        assert_eq!(ends(&run(0..0)), [0]);
         assert_eq!(run(0..0).shortest(0), Ok(Shortest { least: 0, most: 0 }));
         assert_eq!(
             run([0x41, 0x41, 0x42].into_iter()).shortest(99),
             Ok(Shortest { least: 6, most: 6 })
         );
-        assert_eq!(run((0..4096).map(|_| 0x41)).parts(), [0..4096]);
+        assert_eq!(ends(&run((0..4096).map(|_| 0x41))), [4096]);
     }
 
     #[test]
     fn a_long_run_is_cut_where_no_command_goes_across() {
-        // 2, 2, 5, 5 and so on: a command carries two, so that every even place is a seam that costs nothing
-        let long = run((0..4098).map(|k| if k / 2 % 2 == 0 { 2 } else { 5 }));
-        assert_eq!(long.parts(), [0..4096, 4096..4098]);
+        // 2, 2, 2, 5, 5, 5 and so on: a command carries three, so that every third place is a seam that costs nothing
+        let long = run((0..4098).map(|k| if k / 3 % 2 == 0 { 2 } else { 5 }));
+        assert_eq!(ends(&long), [4095, 4098]);
         assert_eq!(
             long.shortest(u64::MAX),
             Ok(Shortest {
-                least: 2049 * 4 - 2,
-                most: 2049 * 4
+                least: 1366 * 4 - 2,
+                most: 1366 * 4
             })
+        );
+        // there is no room to cut elsewhere: 4,096 is no such place
+        assert_eq!(
+            ends(&run((0..8192).map(|k| if k / 3 % 2 == 0 { 2 } else { 5 }))),
+            [4096, 8192]
+        );
+        assert_eq!(
+            ends(&run((0..8190).map(|k| if k / 3 % 2 == 0 { 2 } else { 5 }))),
+            [4095, 8190]
         );
         // one id all along can be cut nowhere without loss: commands of 255 writes take 256 words, so that the first part takes
         // 16 of them and 18 words for 16 writes, the second 4 words; in one list the last 18 writes take 20 words
         let same = run((0..4098).map(|_| 0x41));
-        assert_eq!(same.parts(), [0..4096, 4096..4098]);
+        assert_eq!(ends(&same), [4096, 4098]);
         let whole = 16 * 256 + 20;
         assert_eq!(
             same.shortest(u64::MAX),

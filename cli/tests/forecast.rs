@@ -1,0 +1,289 @@
+//! `pica forecast`: figures by hand, bounds, times, the CSV and the picture.
+
+mod common;
+
+use std::ffi::{OsStr, OsString};
+use std::fs;
+
+use common::check::{csv, xml};
+use common::{apart, example, pica, Folder, Ran};
+
+/// The words of a line after the name, without the remarks' own spaces lost.
+fn figures<'a>(out: &'a str, name: &str) -> Vec<&'a str> {
+    let line = out
+        .lines()
+        .find(|line| line.contains(name))
+        .unwrap_or_else(|| panic!("no {name} in {out}"));
+    let (_, after) = line.split_once(name).unwrap();
+    after.split_whitespace().collect()
+}
+
+fn forecast(folder: &Folder, more: &[&str]) -> Ran {
+    let args: Vec<&OsStr> = [OsStr::new("forecast"), folder.0.as_os_str()]
+        .into_iter()
+        .chain(more.iter().map(OsStr::new))
+        .collect();
+    pica(&args)
+}
+
+/// Three lists whose shortest lengths are computed by hand, by document 01's examples: 41, 41, 42 take 6 words, three rising ids 4,
+/// and 256 equal ids 258. Each write is captured as a command of its own, of two words.
+fn by_hand(name: &str) -> Folder {
+    let folder = Folder::new(name);
+    folder.list("pair", &apart([0x41, 0x41, 0x42]));
+    folder.list("rising", &apart([0x41, 0x42, 0x43]));
+    folder.list("same", &apart([0x41; 256]));
+    folder
+}
+
+#[test]
+fn figures_by_hand() {
+    let folder = by_hand("forecast-hand");
+    let ran = forecast(&folder, &["--rate", "2"]);
+    assert_eq!((ran.status, ran.err.as_str()), (Some(0), ""));
+    assert_eq!(
+        ran.out
+            .lines()
+            .next()
+            .unwrap()
+            .split_whitespace()
+            .collect::<Vec<_>>(),
+        ["list", "words", "writes", "shortest", "saved"]
+    );
+    assert_eq!(figures(&ran.out, "/pair"), ["6", "3", "6", "0", "0.0", "%"]);
+    assert_eq!(
+        figures(&ran.out, "/rising"),
+        ["6", "3", "4", "2", "33.3", "%"]
+    );
+    assert_eq!(
+        figures(&ran.out, "/same"),
+        ["512", "256", "258", "254", "49.6", "%"]
+    );
+    assert_eq!(
+        figures(&ran.out, "total of 3 lists"),
+        ["524", "262", "268", "256", "48.9", "%"]
+    );
+    let times = "replayed at 2 words a second\n  captured  0 h 04 min 22 s\n  shortest  0 h 02 min 14 s\n  saved     0 h 02 min 08 s\n";
+    assert!(ran.out.ends_with(times), "{}", ran.out);
+}
+
+#[test]
+fn what_is_left_out_is_said() {
+    let folder = by_hand("forecast-left-out");
+    folder.list("jump", &[1, 0x000F_023C]);
+    folder.bytes("cut", &[0; 9]);
+    folder.list("blank", &[0; 6]);
+    let ran = forecast(&folder, &[]);
+    assert_eq!(ran.status, Some(2));
+    assert_eq!(
+        figures(&ran.out, "total of 4 lists"),
+        "530 265 272 258 48.7 % without 1 refused and 1 unreadable"
+            .split(' ')
+            .collect::<Vec<_>>()
+    );
+    assert_eq!(
+        figures(&ran.out, "/blank"),
+        "6 3 4 2 33.3 % sets nothing: every word is 0"
+            .split(' ')
+            .collect::<Vec<_>>()
+    );
+    assert_eq!(
+        figures(&ran.out, "/jump")[..5],
+        ["refused", "4", "at", "word", "0,"]
+    );
+    assert_eq!(figures(&ran.out, "/cut")[..2], ["unreadable:", "ends"]);
+    assert!(!ran.out.contains("replayed"));
+}
+
+/// One id 4,098 times: commands of 255 writes take 256 words, so that the shortest has 16 of them and 20 words for the last 18 writes.
+/// Packed in two parts it is 4,114 words for the first 4,096 writes and 4 for the last two.
+#[test]
+fn over_4096_writes_there_are_bounds() {
+    let folder = Folder::new("forecast-bounds");
+    folder.list("apart", &apart([0x41; 4098]));
+    let ran = forecast(&folder, &["--rate", "1"]);
+    let expected = "8,196 4,098 4,118 4,078 49.8 % shortest at least 4,116, at most 4,118";
+    assert_eq!(
+        figures(&ran.out, "/apart"),
+        expected.split(' ').collect::<Vec<_>>()
+    );
+    assert!(
+        ran.out.contains("\n  captured  2 h 16 min 36 s\n"),
+        "{}",
+        ran.out
+    );
+    assert!(
+        ran.out
+            .contains("\n  shortest  at least 1 h 08 min 36 s, at most 1 h 08 min 38 s\n"),
+        "{}",
+        ran.out
+    );
+    assert!(
+        ran.out
+            .contains("\n  saved     at least 1 h 07 min 58 s, at most 1 h 08 min 00 s\n"),
+        "{}",
+        ran.out
+    );
+    // a list that is as short as the lower bound: then the bounds are equal
+    let command = |writes: u32| {
+        let mut words = vec![7, (writes - 1) << 20 | 0x000F_0041];
+        words.extend(vec![7; writes as usize - 1]);
+        words.extend(vec![0; words.len() % 2]);
+        words
+    };
+    let mut shortest: Vec<u32> = (0..16).flat_map(|_| command(255)).collect();
+    shortest.extend(command(18));
+    assert_eq!(shortest.len(), 4116);
+    folder.list("short", &shortest);
+    let ran = forecast(&folder, &[]);
+    assert_eq!(
+        figures(&ran.out, "/short"),
+        ["4,116", "4,098", "4,116", "0", "0.0", "%"]
+    );
+    let total = "12,312 8,196 8,234 4,078 33.1 % shortest at least 8,232, at most 8,234";
+    assert_eq!(
+        figures(&ran.out, "total of 2 lists"),
+        total.split(' ').collect::<Vec<_>>()
+    );
+}
+
+#[test]
+fn the_csv_has_a_row_for_each_list() {
+    let folder = by_hand("forecast-csv");
+    folder.list("jump", &[1, 0x000F_023C]);
+    folder.list("long", &apart([0x41; 4098]));
+    let out = Folder::new("forecast-csv-out");
+    let path = out.path("figures.csv");
+    let path = path.to_str().unwrap();
+    assert_eq!(
+        forecast(&folder, &["--csv", path, "--rate", "4"]).status,
+        Some(1)
+    );
+    let rows = csv(&fs::read_to_string(path).unwrap());
+    let columns = "path verdict words writes shortest_at_least shortest_at_most saved_at_least saved_at_most captured_seconds \
+                   shortest_at_least_seconds shortest_at_most_seconds meaning what_to_do";
+    assert_eq!(rows[0], columns.split(' ').collect::<Vec<_>>());
+    assert_eq!(rows[1][1], "refused");
+    assert!(rows[1][2..11].iter().all(String::is_empty) && rows[1][11].contains("jump register"));
+    let long = [
+        "ok",
+        "8196",
+        "4098",
+        "4116",
+        "4118",
+        "4078",
+        "4080",
+        "2049.000000",
+        "1029.000000",
+        "1029.500000",
+        "",
+        "",
+    ];
+    assert_eq!(rows[2][1..], long);
+    assert_eq!(
+        rows[4][1..],
+        ["ok", "6", "3", "4", "4", "2", "2", "1.500000", "1.000000", "1.000000", "", ""]
+    );
+    assert_eq!(rows.len(), 6);
+    assert_eq!(
+        forecast(&folder, &["--csv", path, "--force"]).status,
+        Some(1)
+    );
+    assert_eq!(
+        csv(&fs::read_to_string(path).unwrap())[4][8..11],
+        ["", "", ""]
+    );
+}
+
+#[test]
+fn the_picture_is_well_formed_and_has_the_figures() {
+    let folder = by_hand("forecast-plot");
+    folder.list("long&<odd>\u{1b}\u{FFFF}\"", &apart([0x41; 4098]));
+    folder.list("jump", &[1, 0x000F_023C]);
+    let out = Folder::new("forecast-plot-out");
+    let path = out.path("figures.svg");
+    forecast(
+        &folder,
+        &["--plot", path.to_str().unwrap(), "--rate", "1000"],
+    );
+    let texts = xml(&fs::read_to_string(path).unwrap());
+    let sum = "4 lists, without 1 refused: 8,720 words captured, 4,384 to 4,386 at the shortest, 4,334 to 4,336 saved (49.7 %)";
+    let expected = [
+        sum,
+        "captured",
+        "shortest",
+        "shortest, between at least and at most",
+        "rising",
+        "4 (\u{2212}33.3 %)",
+        "pair",
+        "4,116 to 4,118 (\u{2212}49.8 %)",
+        "long&<odd>\\u{1b}\u{FFFD}\"",
+        "10,000",
+        "total of 4 lists",
+        "Replayed at 1,000 words a second",
+        "captured: 0 h 00 min 08.720 s; shortest: at least 0 h 00 min 04.384 s, at most 0 h 00 min 04.386 s",
+    ];
+    for text in expected {
+        assert!(
+            texts.iter().any(|found| found == text),
+            "no {text} in {texts:#?}"
+        );
+    }
+}
+
+#[test]
+fn a_picture_of_many_lists_draws_the_largest() {
+    let folder = Folder::new("forecast-many");
+    for k in 1..=45 {
+        folder.list(format!("{k:02}"), &apart(vec![0x41; k]));
+    }
+    let out = Folder::new("forecast-many-out");
+    let path = out.path("figures.svg");
+    forecast(&folder, &["--plot", path.to_str().unwrap()]);
+    let texts = xml(&fs::read_to_string(path).unwrap());
+    assert!(texts.contains(&String::from("06")) && !texts.contains(&String::from("05")));
+    // 1 to 5 writes of one id: 2, 4, 4, 6, 6 words
+    let others = "The 40 largest are drawn; the 5 others: 30 words captured, 22 at the shortest";
+    assert!(texts.iter().any(|text| text == others), "{texts:#?}");
+}
+
+#[test]
+fn nothing_accepted_is_no_error_of_its_own() {
+    let out = Folder::new("forecast-none");
+    let path = out.path("figures.svg").into_os_string();
+    let ran = pica(&[
+        OsString::from("forecast"),
+        example("jump.bin").into(),
+        "--plot".into(),
+        path.clone(),
+        "--rate".into(),
+        "1".into(),
+    ]);
+    assert_eq!(ran.status, Some(1));
+    assert!(
+        ran.out.ends_with("  saved     0 h 00 min 00.000 s\n"),
+        "{}",
+        ran.out
+    );
+    xml(&fs::read_to_string(path).unwrap());
+}
+
+#[test]
+fn wrong_rates_and_files_are_told() {
+    let folder = by_hand("forecast-wrong");
+    for (rate, expected) in [
+        ("0", "above 0"),
+        ("-5", "digits alone"),
+        ("1,000", "digits alone"),
+        ("", "digits alone"),
+        ("1e99", "digits alone"),
+    ] {
+        let ran = forecast(&folder, &["--rate", rate]);
+        assert_eq!((ran.status, ran.out.as_str()), (Some(2), ""), "{rate}");
+        assert!(ran.err.contains(expected), "{rate}: {}", ran.err);
+    }
+    let one = folder.path("one").into_os_string().into_string().unwrap();
+    let ran = forecast(&folder, &["--csv", &one, "--plot", &one]);
+    assert_eq!(ran.status, Some(2));
+    assert!(ran.err.contains("give two names"), "{}", ran.err);
+}

@@ -1,0 +1,265 @@
+//! `pica judge`: verdicts as text, CSV and JSON.
+
+mod common;
+
+use common::check::{csv, json, Json};
+use common::{apart, bytes_of, example, pica, pica_fed, Folder, Random};
+
+#[test]
+fn the_sample_lists() {
+    let accepted = pica(&["judge".into(), example("triangle-state.bin")]);
+    assert_eq!(accepted.status, Some(0));
+    assert!(
+        accepted
+            .out
+            .ends_with("triangle-state.bin: ok, 450 writes, 480 words\n"),
+        "{}",
+        accepted.out
+    );
+    assert_eq!(accepted.err, "");
+
+    let refused = pica(&["judge".into(), example("jump.bin")]);
+    assert_eq!(refused.status, Some(1));
+    assert!(
+        refused
+            .out
+            .contains("jump.bin: refused 4 at word 2, byte 8 (8h): "),
+        "{}",
+        refused.out
+    );
+}
+
+#[test]
+fn every_refusal_of_a_list_has_its_number_place_and_text() {
+    let folder = Folder::new("judge-refusals");
+    let whole = [1, 0x000F_0041];
+    let cases: [(&str, &[u32], &str); 4] = [
+        ("2", &[5], "refused 2 at word 2, byte 8 (8h): "),
+        ("3", &[1, 0x000F_0300], "refused 3 at word 2, byte 8 (8h): "),
+        ("4", &[1, 0x000F_023D], "refused 4 at word 2, byte 8 (8h): "),
+        ("5", &[1, 0x0007_00E8], "refused 5 at word 2, byte 8 (8h): "),
+    ];
+    for (name, bad, expected) in cases {
+        let ran = pica(&["judge".into(), folder.list(name, &[&whole, bad].concat())]);
+        assert_eq!(ran.status, Some(1));
+        let (start, texts) = ran.out.split_once(expected).expect(expected);
+        assert!(start.ends_with(&format!("{name}: ")));
+        let (meaning, advice) = texts.split_once("; ").expect("a meaning, and what to do");
+        assert!(meaning.len() > 10 && advice.trim().len() > 10, "{texts}");
+    }
+    let long = pica(&["judge".into(), folder.list("long", &vec![0; 65_537])]);
+    assert_eq!(long.status, Some(1));
+    assert!(
+        long.out
+            .contains("long: refused 1: a list over 65,536 words; "),
+        "{}",
+        long.out
+    );
+    let longest = pica(&["judge".into(), folder.list("longest", &vec![0; 65_536])]);
+    assert!(
+        longest
+            .out
+            .contains("ok, 32,768 writes, 65,536 words (sets nothing: every word is 0)"),
+        "{}",
+        longest.out
+    );
+}
+
+#[test]
+fn a_list_that_sets_nothing_gets_a_remark() {
+    let folder = Folder::new("judge-nothing");
+    let cases: [(&str, &[u32], &str); 5] = [
+        ("empty", &[], "ok, 0 writes, 0 words (empty)\n"),
+        (
+            "blank",
+            &[0; 8],
+            "ok, 4 writes, 8 words (sets nothing: every word is 0)\n",
+        ),
+        (
+            "maskless",
+            &[7, 0x0000_0041],
+            "ok, 1 write, 2 words (sets nothing: every mask is 0)\n",
+        ),
+        ("one", &[7, 0x0001_0041], "ok, 1 write, 2 words\n"),
+        ("zeros", &[0, 0x000F_0041], "ok, 1 write, 2 words\n"),
+    ];
+    for (name, words, expected) in cases {
+        let ran = pica(&["judge".into(), folder.list(name, words)]);
+        assert_eq!(ran.status, Some(0));
+        assert!(
+            ran.out.ends_with(&format!("{name}: {expected}")),
+            "{}",
+            ran.out
+        );
+    }
+}
+
+#[test]
+fn a_batch_goes_on_and_the_worst_is_its_status() {
+    let folder = Folder::new("judge-batch");
+    let (good, cut) = (
+        folder.list("good", &[1, 0x000F_0041]),
+        folder.bytes("cut", &[0; 7]),
+    );
+    let missing = folder.path("missing");
+    let ran = pica(&[
+        "judge".into(),
+        example("jump.bin"),
+        missing,
+        cut,
+        good.clone(),
+    ]);
+    assert_eq!(ran.status, Some(2));
+    let lines: Vec<&str> = ran.out.lines().collect();
+    assert_eq!(lines.len(), 4);
+    assert!(
+        lines[1].ends_with("missing: unreadable: there is no such file; check its name"),
+        "{}",
+        lines[1]
+    );
+    assert!(
+        lines[2].contains("cut: unreadable: ends within a word (7 bytes); "),
+        "{}",
+        lines[2]
+    );
+    assert!(lines[3].ends_with("good: ok, 1 write, 2 words"));
+    assert_eq!(ran.err, "pica: 1 accepted, 1 refused, 2 unreadable\n");
+    assert_eq!(
+        pica(&["judge".into(), good, example("jump.bin")]).status,
+        Some(1)
+    );
+}
+
+#[test]
+fn csv_and_json_say_the_same() {
+    let folder = Folder::new("judge-forms");
+    folder.list("a, \"b\"\n.bin", &apart([0x41, 0x42]));
+    folder.list("blank", &[0, 0]);
+    folder.list("jump", &[1, 0x000F_0041, 1, 0x000F_023C]);
+    folder.list("long", &vec![0; 65_537]);
+    folder.bytes("seven", &[0; 7]);
+    let path = folder.0.clone().into_os_string();
+
+    let rows = csv(&pica(&["judge".into(), "--csv".into(), path.clone()]).out);
+    let columns = [
+        "path",
+        "verdict",
+        "writes",
+        "words",
+        "number",
+        "place",
+        "byte",
+        "meaning",
+        "what_to_do",
+    ];
+    assert_eq!(rows[0], columns);
+    assert!(rows[1][0].ends_with("/a, \"b\"\n.bin"));
+    assert_eq!(rows[1][1..], ["ok", "2", "4", "", "", "", "", ""]);
+    assert_eq!(
+        rows[2][1..8],
+        ["ok", "1", "2", "", "", "", "sets nothing: every word is 0"]
+    );
+    assert_eq!(rows[3][1..7], ["refused", "", "", "4", "2", "8"]);
+    assert_eq!(
+        rows[4][1..8],
+        ["refused", "", "", "1", "0", "", "a list over 65,536 words"]
+    );
+    assert_eq!(
+        rows[5][1..8],
+        [
+            "unreadable",
+            "",
+            "",
+            "",
+            "",
+            "",
+            "ends within a word (7 bytes)"
+        ]
+    );
+
+    let ran = pica(&["judge".into(), path, "--json".into()]);
+    assert_eq!(ran.status, Some(2));
+    let Json::Array(objects) = json(&ran.out) else {
+        panic!("no array: {}", ran.out)
+    };
+    let as_text = |value: &Json| match value {
+        Json::Null => String::new(),
+        Json::Number(number) => number.to_string(),
+        Json::Text(text) => text.clone(),
+        other => panic!("{other:?}"),
+    };
+    let again = objects.iter().map(|object| {
+        columns
+            .iter()
+            .map(|name| as_text(object.at(name)))
+            .collect()
+    });
+    assert_eq!(again.collect::<Vec<Vec<String>>>(), rows[1..]);
+    assert_eq!(objects[2].at("place"), &Json::Number(2));
+}
+
+#[test]
+fn random_bytes_get_the_librarys_verdict() {
+    let folder = Folder::new("judge-random");
+    let mut random = Random(0x5DEE_CE66_D1CE_4E5B);
+    let mut expected = Vec::new();
+    for k in 0..300 {
+        let length = random.below(120) * if k % 3 == 0 { 1 } else { 4 };
+        let bytes: Vec<u8> = (0..length)
+            .map(|_| random.next() as u8 & if k % 2 == 0 { 0xFF } else { 0x03 })
+            .collect();
+        folder.bytes(format!("{k:03}"), &bytes);
+        let words: Vec<u32> = bytes
+            .chunks_exact(4)
+            .map(|four| u32::from_le_bytes([four[0], four[1], four[2], four[3]]))
+            .collect();
+        expected.push(match pica::State::default().read(&words) {
+            _ if length % 4 != 0 => (String::from("unreadable"), String::new(), String::new()),
+            Ok(writes) => (String::from("ok"), writes.to_string(), String::new()),
+            Err(refusal) => (
+                String::from("refused"),
+                String::new(),
+                format!("{} {}", refusal.number, refusal.place),
+            ),
+        });
+    }
+    let rows = csv(&pica(&[
+        "judge".into(),
+        "--csv".into(),
+        folder.0.clone().into_os_string(),
+    ])
+    .out);
+    let numbers = |row: &[String]| {
+        if row[4].is_empty() {
+            String::new()
+        } else {
+            format!("{} {}", row[4], row[5])
+        }
+    };
+    let found: Vec<_> = rows[1..]
+        .iter()
+        .map(|row| (row[1].clone(), row[2].clone(), numbers(row)))
+        .collect();
+    assert_eq!(found, expected);
+    for verdict in ["ok", "refused", "unreadable"] {
+        assert!(
+            found.iter().any(|(found, ..)| found == verdict),
+            "{verdict}"
+        );
+    }
+}
+
+#[test]
+fn standard_input_comes_in_pieces() {
+    let bytes = bytes_of(&[1, 0x802F_0041, 2, 3]);
+    let ran = pica_fed(&["judge", "-"], &[&bytes[..3], &bytes[3..9], &bytes[9..]]);
+    assert_eq!(
+        (ran.status, ran.out.as_str()),
+        (Some(0), "-: ok, 3 writes, 4 words\n")
+    );
+    let twice = pica_fed(&["judge", "-", "-"], &[&bytes]);
+    assert_eq!(twice.status, Some(2));
+    assert!(twice.out.starts_with(
+        "-: ok, 3 writes, 4 words\n-: unreadable: standard input can be read only once; "
+    ));
+}
