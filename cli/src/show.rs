@@ -41,8 +41,8 @@ and not held, with the last value written. Names are those of the documents; ids
   --all        all fields, and all table entries that aren't zero
   --changes    only what the list changes
   --entries    table entries one by one
-  --json       one array of objects, one for each field, entry and register that isn't held: its bits as
-               value, what they stand for as meaning, and the same of what was before
+  --json       one array of objects, one for each field, entry and register that isn't held: its
+               bits as value, what they stand for as meaning, and the same of what was before
 
 A list that leaves a code without a name in a register is shown too, and the exit status is then 1.
 
