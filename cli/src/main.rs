@@ -11,6 +11,7 @@ mod help;
 mod input;
 mod json;
 mod judge;
+mod labels;
 mod lines;
 mod lists;
 mod options;

@@ -1,15 +1,14 @@
 //! A forecast as a picture: for each list a bar for the words captured and one for the fewest.
 
 use crate::figures::{Figures, Row, Totals};
-use crate::input::on_one_line;
+use crate::labels::{common_folder, label};
 use crate::rate::Rate;
-use crate::svg::{Picture, Style};
+use crate::svg::{style, Picture, Style};
 use crate::table::either;
-use crate::text::{grouped, percent, shortened};
+use crate::text::{grouped, percent};
 
 /// More lists than these make no picture that can be read.
 const BARS_MOST: usize = 40;
-const NAME_MOST: usize = 34;
 
 const WIDTH: f64 = 860.0;
 /// Where bars begin, and the longest ends; their names stand left of it and their lengths right.
@@ -25,39 +24,22 @@ const SHORTEST: &str = "#f0a030";
 const BETWEEN: &str = "#fbe3bf";
 const GRID: &str = "#dedede";
 
-const PLAIN: Style = Style {
-    size: 11,
-    anchor: "start",
-    is_bold: false,
-};
-const BOLD: Style = Style {
-    is_bold: true,
-    ..PLAIN
-};
-const TITLE: Style = Style { size: 17, ..BOLD };
-const NAME: Style = Style {
-    anchor: "end",
-    ..PLAIN
-};
-const VALUE: Style = Style { size: 9, ..PLAIN };
-const TICK: Style = Style {
-    size: 10,
-    anchor: "middle",
-    ..PLAIN
-};
+const PLAIN: Style = style(11, "start", false);
+const BOLD: Style = style(11, "start", true);
+const TITLE: Style = style(17, "start", true);
+const NAME: Style = style(11, "end", false);
+const TOTAL: Style = style(11, "end", true);
+const BELOW: Style = style(9, "end", false);
+const VALUE: Style = style(9, "start", false);
+const TICK: Style = style(10, "middle", false);
 
 /// The picture, as the text of an SVG file.
 pub fn picture(rows: &[Row], totals: &Totals, rate: Option<Rate>) -> String {
     let (drawn, others) = chosen(rows);
     let mut picture = Picture::new();
     heading(&mut picture, totals, &drawn);
-    let axis = Axis::new(
-        drawn
-            .iter()
-            .map(|(_, figures)| figures.words)
-            .max()
-            .unwrap_or(0),
-    );
+    let longest = drawn.iter().map(|(_, figures)| figures.words).max();
+    let axis = Axis::new(longest.unwrap_or(0));
     let bottom = TOP + PITCH * drawn.len() as f64;
     axis.draw(&mut picture, bottom);
     for (k, (name, figures)) in drawn.iter().enumerate() {
@@ -82,53 +64,15 @@ fn chosen(rows: &[Row]) -> (Vec<(String, Figures)>, Totals) {
     let mut others = Totals::default();
     if drawn.len() > BARS_MOST {
         drawn.sort_by_key(|(_, figures)| std::cmp::Reverse(figures.words)); // keeps the order of equal ones
-        drawn
-            .split_off(BARS_MOST)
-            .iter()
-            .for_each(|(row, _)| others.add(row));
+        for (row, _) in drawn.split_off(BARS_MOST) {
+            others.add(row);
+        }
     }
-    let folder = common_folder(&drawn);
-    let labelled =
-        |(row, figures): (&Row, Figures)| (label(&row.name[folder..], figures.remark), figures);
-    (drawn.into_iter().map(labelled).collect(), others)
-}
-
-/// How much of the start of every name is the same folder: that tells nothing beside the bars.
-fn common_folder(drawn: &[(&Row, Figures)]) -> usize {
-    let Some(((first, _), rest)) = drawn.split_first() else {
-        return 0;
-    };
-    let same = |name: &str| {
-        name.bytes()
-            .zip(first.name.bytes())
-            .take_while(|(a, b)| a == b)
-            .count()
-    };
-    let most = rest
-        .iter()
-        .map(|(row, _)| same(&row.name))
-        .min()
-        .unwrap_or(first.name.len());
-    let start = &first.name.as_bytes()[..most];
-    start
-        .iter()
-        .rposition(|&byte| byte == b'/')
-        .map_or(0, |slash| slash + 1)
-}
-
-/// A name that fits beside its bars, with what is remarkable. Letters beyond the Latin ones may be twice as wide.
-fn label(name: &str, remark: Option<&str>) -> String {
-    let name = on_one_line(name);
-    let remark = remark.and_then(|remark| remark.split(':').next());
-    let end = remark.map_or_else(String::new, |remark| format!(" ({remark})"));
-    let wide = |letter| if letter < '\u{300}' { 1 } else { 2 };
-    let width = |text: &str| text.chars().map(wide).sum::<usize>();
-    let fits = |text: &String| width(text) + width(&end) <= NAME_MOST;
-    let fitting = (1..=NAME_MOST)
-        .rev()
-        .map(|most| shortened(&name, most))
-        .find(fits);
-    fitting.unwrap_or_default() + &end
+    let names: Vec<&str> = drawn.iter().map(|(row, _)| row.name.as_str()).collect();
+    let folder = common_folder(&names);
+    let label =
+        |(row, figures): &(&Row, Figures)| (label(&row.name[folder..], figures.remark), *figures);
+    (drawn.iter().map(label).collect(), others)
 }
 
 fn heading(picture: &mut Picture, totals: &Totals, drawn: &[(String, Figures)]) {
@@ -172,27 +116,19 @@ fn between(least: u64, most: u64) -> String {
 
 /// The two bars of a list, the first as long as its words are of `end`.
 fn bars(picture: &mut Picture, y: f64, figures: &Figures, end: u64) {
-    let Figures {
-        words, shortest, ..
-    } = *figures;
+    let (words, shortest, x) = (figures.words, figures.shortest, BARS.0);
     let long = |words: u64| (BARS.1 - BARS.0) * words as f64 / end as f64;
-    picture.rectangle((BARS.0, y), (long(words), BAR), CAPTURED);
+    picture.rectangle((x, y), (long(words), BAR), CAPTURED);
     picture.text(
-        (BARS.0 + long(words) + 5.0, y + BAR - 1.0),
+        (x + long(words) + 5.0, y + BAR - 1.0),
         VALUE,
         &grouped(words),
     );
-    picture.rectangle(
-        (BARS.0, y + BAR),
-        (long(shortest.most), BAR),
-        if figures.is_bounded() {
-            BETWEEN
-        } else {
-            SHORTEST
-        },
-    );
+    let y = y + BAR;
+    picture.rectangle((x, y), (long(shortest.least), BAR), SHORTEST);
     if figures.is_bounded() {
-        picture.rectangle((BARS.0, y + BAR), (long(shortest.least), BAR), SHORTEST);
+        let (start, end) = (long(shortest.least), long(shortest.most));
+        picture.rectangle((x + start, y), (end - start, BAR), BETWEEN);
     }
     let mut value = between(shortest.least, shortest.most);
     let saved = figures.saved().least;
@@ -200,7 +136,7 @@ fn bars(picture: &mut Picture, y: f64, figures: &Figures, end: u64) {
         value += &format!(" (\u{2212}{} %)", percent(saved, words));
     }
     picture.text(
-        (BARS.0 + long(shortest.most) + 5.0, y + 2.0 * BAR - 1.0),
+        (x + long(shortest.most) + 5.0, y + BAR - 1.0),
         VALUE,
         &value,
     );
@@ -238,55 +174,33 @@ impl Axis {
 }
 
 /// What isn't drawn, and the totals, in a scale of their own; gives the picture's height.
-fn foot(
-    picture: &mut Picture,
-    top: f64,
-    others: &Totals,
-    totals: &Totals,
-    rate: Option<Rate>,
-) -> f64 {
-    let mut y = top;
+fn foot(picture: &mut Picture, y: f64, others: &Totals, all: &Totals, rate: Option<Rate>) -> f64 {
+    let mut y = y;
     if others.lists > 0 {
         picture.text((20.0, y), PLAIN, &not_drawn(others));
         y += 22.0;
     }
-    if totals.lists > 1 {
+    if all.lists > 1 {
+        let (x, name) = (
+            BARS.0 - 8.0,
+            format!("total of {} lists", grouped(all.lists)),
+        );
         picture.line((20.0, y - 8.0), (WIDTH - 20.0, y - 8.0), GRID);
-        let name = format!("total of {} lists", grouped(totals.lists));
-        picture.text(
-            (BARS.0 - 8.0, y + BAR + 1.0),
-            Style {
-                is_bold: true,
-                ..NAME
-            },
-            &name,
-        );
-        picture.text(
-            (BARS.0 - 8.0, y + BAR + 13.0),
-            Style { size: 9, ..NAME },
-            "in a scale of its own",
-        );
-        bars(picture, y + 3.0, &totals.sum, totals.sum.words.max(1));
+        picture.text((x, y + BAR + 1.0), TOTAL, &name);
+        picture.text((x, y + BAR + 13.0), BELOW, "in a scale of its own");
+        bars(picture, y + 3.0, &all.sum, all.sum.words.max(1));
         y += 48.0;
     }
     if let Some(rate) = rate {
-        let Figures {
-            words, shortest, ..
-        } = totals.sum;
-        let (captured, shortest) = (
-            rate.hours(words),
-            either(rate, shortest.least, shortest.most),
-        );
+        let captured = rate.hours(all.sum.words);
+        let shortest = either(rate, all.sum.shortest.least, all.sum.shortest.most);
+        let times = format!("captured: {captured}; shortest: {shortest}");
         picture.text(
             (20.0, y),
             BOLD,
             &format!("Replayed at {rate} words a second"),
         );
-        picture.text(
-            (20.0, y + 17.0),
-            PLAIN,
-            &format!("captured: {captured}; shortest: {shortest}"),
-        );
+        picture.text((20.0, y + 17.0), PLAIN, &times);
         y += 40.0;
     }
     y
@@ -311,38 +225,5 @@ mod tests {
             ends,
             [(1, 1), (1, 1), (1, 6), (2, 8), (100, 500), (20_000, 80_000)]
         );
-    }
-
-    #[test]
-    fn names_fit() {
-        assert_eq!(label("a.bin", None), "a.bin");
-        assert_eq!(
-            label("a.bin", Some("sets nothing: every word is 0")),
-            "a.bin (sets nothing)"
-        );
-        assert_eq!(label(&"x".repeat(99), Some("empty")).len(), NAME_MOST);
-        assert_eq!(label(&"\u{753b}".repeat(99), None).chars().count(), 18);
-    }
-
-    #[test]
-    fn the_common_folder_is_left_out() {
-        let folder = |names: &[&str]| {
-            let row = |name: &&str| Row {
-                name: (*name).to_owned(),
-                found: Ok(Figures::default()),
-            };
-            let rows: Vec<Row> = names.iter().map(row).collect();
-            common_folder(
-                &rows
-                    .iter()
-                    .map(|row| (row, Figures::default()))
-                    .collect::<Vec<_>>(),
-            )
-        };
-        assert_eq!(folder(&[]), 0);
-        assert_eq!(folder(&["a/b/c"]), 4);
-        assert_eq!(folder(&["a/b/c", "a/bd"]), 2);
-        assert_eq!(folder(&["a/\u{e9}", "a/\u{e8}"]), 2);
-        assert_eq!(folder(&["a", "b/a"]), 0);
     }
 }

@@ -10,13 +10,21 @@ pub struct Picture {
 /// How a text is set.
 #[derive(Clone, Copy)]
 pub struct Style {
-    pub size: u32,
+    size: u32,
     /// `start`, `middle` or `end`: which of the text is at its place.
-    pub anchor: &'static str,
-    pub is_bold: bool,
+    anchor: &'static str,
+    is_bold: bool,
 }
 
-pub const INK: &str = "#1a1a1a";
+pub const fn style(size: u32, anchor: &'static str, is_bold: bool) -> Style {
+    Style {
+        size,
+        anchor,
+        is_bold,
+    }
+}
+
+const INK: &str = "#1a1a1a";
 
 impl Picture {
     pub fn new() -> Self {

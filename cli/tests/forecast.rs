@@ -8,14 +8,17 @@ use std::fs;
 use common::check::{csv, xml};
 use common::{apart, example, pica, Folder, Ran};
 
-/// The words of a line after the name, without the remarks' own spaces lost.
-fn figures<'a>(out: &'a str, name: &str) -> Vec<&'a str> {
-    let line = out
-        .lines()
-        .find(|line| line.contains(name))
+/// What a line says after the name, with one space between its columns.
+fn figures(out: &str, name: &str) -> String {
+    let line = out.lines().find(|line| line.contains(name));
+    let (_, after) = line
+        .and_then(|line| line.split_once(name))
         .unwrap_or_else(|| panic!("no {name} in {out}"));
-    let (_, after) = line.split_once(name).unwrap();
-    after.split_whitespace().collect()
+    split(after).join(" ")
+}
+
+fn split(words: &str) -> Vec<&str> {
+    words.split_whitespace().collect()
 }
 
 fn forecast(folder: &Folder, more: &[&str]) -> Ran {
@@ -41,29 +44,20 @@ fn figures_by_hand() {
     let folder = by_hand("forecast-hand");
     let ran = forecast(&folder, &["--rate", "2"]);
     assert_eq!((ran.status, ran.err.as_str()), (Some(0), ""));
-    assert_eq!(
-        ran.out
-            .lines()
-            .next()
-            .unwrap()
-            .split_whitespace()
-            .collect::<Vec<_>>(),
-        ["list", "words", "writes", "shortest", "saved"]
-    );
-    assert_eq!(figures(&ran.out, "/pair"), ["6", "3", "6", "0", "0.0", "%"]);
-    assert_eq!(
-        figures(&ran.out, "/rising"),
-        ["6", "3", "4", "2", "33.3", "%"]
-    );
-    assert_eq!(
-        figures(&ran.out, "/same"),
-        ["512", "256", "258", "254", "49.6", "%"]
-    );
+    assert_eq!(figures(&ran.out, "list"), "words writes shortest saved");
+    assert_eq!(figures(&ran.out, "/pair"), "6 3 6 0 0.0 %");
+    assert_eq!(figures(&ran.out, "/rising"), "6 3 4 2 33.3 %");
+    assert_eq!(figures(&ran.out, "/same"), "512 256 258 254 49.6 %");
     assert_eq!(
         figures(&ran.out, "total of 3 lists"),
-        ["524", "262", "268", "256", "48.9", "%"]
+        "524 262 268 256 48.9 %"
     );
-    let times = "replayed at 2 words a second\n  captured  0 h 04 min 22 s\n  shortest  0 h 02 min 14 s\n  saved     0 h 02 min 08 s\n";
+    let times = "
+replayed at 2 words a second
+  captured  0 h 04 min 22 s
+  shortest  0 h 02 min 14 s
+  saved     0 h 02 min 08 s
+";
     assert!(ran.out.ends_with(times), "{}", ran.out);
 }
 
@@ -75,23 +69,14 @@ fn what_is_left_out_is_said() {
     folder.list("blank", &[0; 6]);
     let ran = forecast(&folder, &[]);
     assert_eq!(ran.status, Some(2));
-    assert_eq!(
-        figures(&ran.out, "total of 4 lists"),
-        "530 265 272 258 48.7 % without 1 refused and 1 unreadable"
-            .split(' ')
-            .collect::<Vec<_>>()
-    );
+    let total = "530 265 272 258 48.7 % without 1 refused and 1 unreadable";
+    assert_eq!(figures(&ran.out, "total of 4 lists"), total);
     assert_eq!(
         figures(&ran.out, "/blank"),
         "6 3 4 2 33.3 % sets nothing: every word is 0"
-            .split(' ')
-            .collect::<Vec<_>>()
     );
-    assert_eq!(
-        figures(&ran.out, "/jump")[..5],
-        ["refused", "4", "at", "word", "0,"]
-    );
-    assert_eq!(figures(&ran.out, "/cut")[..2], ["unreadable:", "ends"]);
+    assert!(figures(&ran.out, "/jump").starts_with("refused 4 at word 0, byte 0 (0h): "));
+    assert!(figures(&ran.out, "/cut").starts_with("unreadable: ends within a word (9 bytes)"));
     assert!(!ran.out.contains("replayed"));
 }
 
@@ -103,56 +88,45 @@ fn over_4096_writes_there_are_bounds() {
     folder.list("apart", &apart([0x41; 4098]));
     let ran = forecast(&folder, &["--rate", "1"]);
     let expected = "8,196 4,098 4,118 4,078 49.8 % shortest at least 4,116, at most 4,118";
-    assert_eq!(
-        figures(&ran.out, "/apart"),
-        expected.split(' ').collect::<Vec<_>>()
-    );
-    assert!(
-        ran.out.contains("\n  captured  2 h 16 min 36 s\n"),
-        "{}",
-        ran.out
-    );
-    assert!(
-        ran.out
-            .contains("\n  shortest  at least 1 h 08 min 36 s, at most 1 h 08 min 38 s\n"),
-        "{}",
-        ran.out
-    );
-    assert!(
-        ran.out
-            .contains("\n  saved     at least 1 h 07 min 58 s, at most 1 h 08 min 00 s\n"),
-        "{}",
-        ran.out
-    );
-    // a list that is as short as the lower bound: then the bounds are equal
-    let command = |writes: u32| {
-        let mut words = vec![7, (writes - 1) << 20 | 0x000F_0041];
-        words.extend(vec![7; writes as usize - 1]);
-        words.extend(vec![0; words.len() % 2]);
-        words
-    };
-    let mut shortest: Vec<u32> = (0..16).flat_map(|_| command(255)).collect();
-    shortest.extend(command(18));
-    assert_eq!(shortest.len(), 4116);
-    folder.list("short", &shortest);
-    let ran = forecast(&folder, &[]);
-    assert_eq!(
-        figures(&ran.out, "/short"),
-        ["4,116", "4,098", "4,116", "0", "0.0", "%"]
-    );
-    let total = "12,312 8,196 8,234 4,078 33.1 % shortest at least 8,232, at most 8,234";
-    assert_eq!(
-        figures(&ran.out, "total of 2 lists"),
-        total.split(' ').collect::<Vec<_>>()
-    );
+    assert_eq!(figures(&ran.out, "/apart"), expected);
+    let times = "
+  captured  2 h 16 min 36 s
+  shortest  at least 1 h 08 min 36 s, at most 1 h 08 min 38 s
+  saved     at least 1 h 07 min 58 s, at most 1 h 08 min 00 s
+";
+    assert!(ran.out.ends_with(times), "{}", ran.out);
+}
+
+/// A command of so many writes to register 41.
+fn command_of(writes: u32) -> Vec<u32> {
+    let mut words = vec![7, (writes - 1) << 20 | 0x000F_0041];
+    words.extend(vec![7; writes as usize - 1]);
+    words.extend(vec![0; words.len() % 2]);
+    words
 }
 
 #[test]
+fn a_list_as_short_as_the_lower_bound_is_the_shortest() {
+    let folder = Folder::new("forecast-equal");
+    let mut shortest = command_of(255).repeat(16);
+    shortest.extend(command_of(18));
+    assert_eq!(shortest.len(), 4116);
+    folder.list("short", &shortest);
+    folder.list("apart", &apart([0x41; 4098]));
+    let ran = forecast(&folder, &[]);
+    assert_eq!(figures(&ran.out, "/short"), "4,116 4,098 4,116 0 0.0 %");
+    let total = "12,312 8,196 8,234 4,078 33.1 % shortest at least 8,232, at most 8,234";
+    assert_eq!(figures(&ran.out, "total of 2 lists"), total);
+}
+
+const COLUMNS: &str = "path verdict words writes shortest_at_least shortest_at_most saved_at_least saved_at_most \
+                       captured_seconds shortest_at_least_seconds shortest_at_most_seconds meaning what_to_do";
+
+#[test]
 fn the_csv_has_a_row_for_each_list() {
-    let folder = by_hand("forecast-csv");
+    let (folder, out) = (by_hand("forecast-csv"), Folder::new("forecast-csv-out"));
     folder.list("jump", &[1, 0x000F_023C]);
     folder.list("long", &apart([0x41; 4098]));
-    let out = Folder::new("forecast-csv-out");
     let path = out.path("figures.csv");
     let path = path.to_str().unwrap();
     assert_eq!(
@@ -160,39 +134,20 @@ fn the_csv_has_a_row_for_each_list() {
         Some(1)
     );
     let rows = csv(&fs::read_to_string(path).unwrap());
-    let columns = "path verdict words writes shortest_at_least shortest_at_most saved_at_least saved_at_most captured_seconds \
-                   shortest_at_least_seconds shortest_at_most_seconds meaning what_to_do";
-    assert_eq!(rows[0], columns.split(' ').collect::<Vec<_>>());
+    assert_eq!(rows[0], split(COLUMNS));
     assert_eq!(rows[1][1], "refused");
     assert!(rows[1][2..11].iter().all(String::is_empty) && rows[1][11].contains("jump register"));
-    let long = [
-        "ok",
-        "8196",
-        "4098",
-        "4116",
-        "4118",
-        "4078",
-        "4080",
-        "2049.000000",
-        "1029.000000",
-        "1029.500000",
-        "",
-        "",
-    ];
-    assert_eq!(rows[2][1..], long);
-    assert_eq!(
-        rows[4][1..],
-        ["ok", "6", "3", "4", "4", "2", "2", "1.500000", "1.000000", "1.000000", "", ""]
-    );
+    let long = "ok 8196 4098 4116 4118 4078 4080 2049.000000 1029.000000 1029.500000";
+    assert_eq!(rows[2][1..11], split(long));
+    let rising = "ok 6 3 4 4 2 2 1.500000 1.000000 1.000000";
+    assert_eq!(rows[4][1..11], split(rising));
     assert_eq!(rows.len(), 6);
     assert_eq!(
         forecast(&folder, &["--csv", path, "--force"]).status,
         Some(1)
     );
-    assert_eq!(
-        csv(&fs::read_to_string(path).unwrap())[4][8..11],
-        ["", "", ""]
-    );
+    let without_a_rate = csv(&fs::read_to_string(path).unwrap());
+    assert_eq!(without_a_rate[4][7..11], ["2", "", "", ""]);
 }
 
 #[test]

@@ -130,72 +130,77 @@ fn a_batch_goes_on_and_the_worst_is_its_status() {
     );
 }
 
-#[test]
-fn csv_and_json_say_the_same() {
-    let folder = Folder::new("judge-forms");
+const COLUMNS: &str = "path verdict writes words number place byte meaning what_to_do";
+
+fn columns() -> Vec<&'static str> {
+    COLUMNS.split(' ').collect()
+}
+
+/// A folder with a list for each verdict.
+fn verdicts(name: &str) -> Folder {
+    let folder = Folder::new(name);
     folder.list("a, \"b\"\n.bin", &apart([0x41, 0x42]));
     folder.list("blank", &[0, 0]);
     folder.list("jump", &[1, 0x000F_0041, 1, 0x000F_023C]);
     folder.list("long", &vec![0; 65_537]);
     folder.bytes("seven", &[0; 7]);
-    let path = folder.0.clone().into_os_string();
+    folder
+}
 
-    let rows = csv(&pica(&["judge".into(), "--csv".into(), path.clone()]).out);
-    let columns = [
-        "path",
-        "verdict",
-        "writes",
-        "words",
-        "number",
-        "place",
-        "byte",
-        "meaning",
-        "what_to_do",
-    ];
-    assert_eq!(rows[0], columns);
-    assert!(rows[1][0].ends_with("/a, \"b\"\n.bin"));
-    assert_eq!(rows[1][1..], ["ok", "2", "4", "", "", "", "", ""]);
-    assert_eq!(
-        rows[2][1..8],
-        ["ok", "1", "2", "", "", "", "sets nothing: every word is 0"]
-    );
-    assert_eq!(rows[3][1..7], ["refused", "", "", "4", "2", "8"]);
-    assert_eq!(
-        rows[4][1..8],
-        ["refused", "", "", "1", "0", "", "a list over 65,536 words"]
-    );
-    assert_eq!(
-        rows[5][1..8],
-        [
-            "unreadable",
-            "",
-            "",
-            "",
-            "",
-            "",
-            "ends within a word (7 bytes)"
-        ]
-    );
+/// The folder's verdicts as CSV, without the line of the columns' names.
+fn rows(folder: &Folder) -> Vec<Vec<String>> {
+    let mut rows = csv(&pica(&["judge".into(), "--csv".into(), folder.0.clone()]).out);
+    assert_eq!(rows.remove(0), columns());
+    rows
+}
 
-    let ran = pica(&["judge".into(), path, "--json".into()]);
+#[test]
+fn csv_has_a_row_for_each() {
+    let rows = rows(&verdicts("judge-csv"));
+    assert!(rows[0][0].ends_with("/a, \"b\"\n.bin"));
+    assert_eq!(rows[0][1..], ["ok", "2", "4", "", "", "", "", ""]);
+    let nothing = "sets nothing: every word is 0";
+    assert_eq!(rows[1][1..8], ["ok", "1", "2", "", "", "", nothing]);
+    assert_eq!(rows[2][1..7], ["refused", "", "", "4", "2", "8"]);
+    let long = "a list over 65,536 words";
+    assert_eq!(rows[3][1..8], ["refused", "", "", "1", "0", "", long]);
+    let seven = "ends within a word (7 bytes)";
+    assert_eq!(rows[4][1..8], ["unreadable", "", "", "", "", "", seven]);
+}
+
+#[test]
+fn json_says_the_same_as_csv() {
+    let folder = verdicts("judge-json");
+    let ran = pica(&["judge".into(), folder.0.clone(), "--json".into()]);
     assert_eq!(ran.status, Some(2));
     let Json::Array(objects) = json(&ran.out) else {
         panic!("no array: {}", ran.out)
     };
-    let as_text = |value: &Json| match value {
+    let text = |value: &Json| match value {
         Json::Null => String::new(),
         Json::Number(number) => number.to_string(),
         Json::Text(text) => text.clone(),
         other => panic!("{other:?}"),
     };
-    let again = objects.iter().map(|object| {
-        columns
-            .iter()
-            .map(|name| as_text(object.at(name)))
-            .collect()
-    });
-    assert_eq!(again.collect::<Vec<Vec<String>>>(), rows[1..]);
+    let row = |object: &Json| columns().iter().map(|name| text(object.at(name))).collect();
+    let again: Vec<Vec<String>> = objects.iter().map(row).collect();
+    assert_eq!(again, rows(&folder));
     assert_eq!(objects[2].at("place"), &Json::Number(2));
+    assert_eq!(objects[2].at("words"), &Json::Null);
+}
+
+/// What the library says of bytes, as a row has it: verdict, writes, number and place.
+fn by_the_library(bytes: &[u8]) -> [String; 4] {
+    let word = |four: &[u8]| u32::from_le_bytes([four[0], four[1], four[2], four[3]]);
+    let words: Vec<u32> = bytes.chunks_exact(4).map(word).collect();
+    let row = match pica::State::default().read(&words) {
+        _ if bytes.len() % 4 != 0 => ["unreadable", "", "", ""].map(String::from),
+        Ok(writes) => ["ok", &writes.to_string(), "", ""].map(String::from),
+        Err(pica::Refusal { number, place }) => {
+            ["refused", "", &number.to_string(), &place.to_string()].map(String::from)
+        }
+    };
+    row
 }
 
 #[test]
@@ -205,47 +210,17 @@ fn random_bytes_get_the_librarys_verdict() {
     let mut expected = Vec::new();
     for k in 0..300 {
         let length = random.below(120) * if k % 3 == 0 { 1 } else { 4 };
-        let bytes: Vec<u8> = (0..length)
-            .map(|_| random.next() as u8 & if k % 2 == 0 { 0xFF } else { 0x03 })
-            .collect();
+        let kept = if k % 2 == 0 { 0xFF } else { 0x03 }; // small numbers are more often commands
+        let bytes: Vec<u8> = (0..length).map(|_| random.next() as u8 & kept).collect();
         folder.bytes(format!("{k:03}"), &bytes);
-        let words: Vec<u32> = bytes
-            .chunks_exact(4)
-            .map(|four| u32::from_le_bytes([four[0], four[1], four[2], four[3]]))
-            .collect();
-        expected.push(match pica::State::default().read(&words) {
-            _ if length % 4 != 0 => (String::from("unreadable"), String::new(), String::new()),
-            Ok(writes) => (String::from("ok"), writes.to_string(), String::new()),
-            Err(refusal) => (
-                String::from("refused"),
-                String::new(),
-                format!("{} {}", refusal.number, refusal.place),
-            ),
-        });
+        expected.push(by_the_library(&bytes));
     }
-    let rows = csv(&pica(&[
-        "judge".into(),
-        "--csv".into(),
-        folder.0.clone().into_os_string(),
-    ])
-    .out);
-    let numbers = |row: &[String]| {
-        if row[4].is_empty() {
-            String::new()
-        } else {
-            format!("{} {}", row[4], row[5])
-        }
-    };
-    let found: Vec<_> = rows[1..]
-        .iter()
-        .map(|row| (row[1].clone(), row[2].clone(), numbers(row)))
-        .collect();
-    assert_eq!(found, expected);
+    let found = rows(&folder)
+        .into_iter()
+        .map(|row| [1, 2, 4, 5].map(|k| row[k].clone()));
+    assert_eq!(found.collect::<Vec<_>>(), expected);
     for verdict in ["ok", "refused", "unreadable"] {
-        assert!(
-            found.iter().any(|(found, ..)| found == verdict),
-            "{verdict}"
-        );
+        assert!(expected.iter().any(|row| row[0] == verdict), "{verdict}");
     }
 }
 
