@@ -6,7 +6,8 @@
  * Every function answers any number: with a string of ASCII that lives as long as the program, or with NULL where there is no name.
  * Nothing is allocated. The functions are static and need no library beside the header.
  *
- *     printf("%s: %s\n", pica_field_name(field), pica_code_name(field, fields[field]));
+ *     uint64_t answer = pica_pack(ids, n, masks, n, values, n, space, length);
+ *     if (pica_number(answer)) fprintf(stderr, "refused: %s\n", pica_refusal_text(pica_number(answer)));
  */
 #ifndef PICA_NAMES_H
 #define PICA_NAMES_H

@@ -3,6 +3,7 @@
 mod fields;
 mod mark;
 mod numbers;
+mod objects;
 mod tables;
 mod trace;
 mod unheld;
@@ -25,21 +26,23 @@ use trace::Trace;
 pub const SUMMARY: &str = "what a list sets, register by register and field by field";
 
 pub const HELP: &str = "\
-Usage: pica show FILE [--from FILE] [--all | --changes] [--entries]
+Usage: pica show FILE [--from FILE] [--all | --changes] [--entries | --json]
 
-Shows what the list in FILE (- for standard input) sets: each register that it writes, with what is then
-held, and each of the register's fields with its number in hexadecimal, what that stands for (the code's
-name, a float's value, else the number in decimal) and what it was before, where that differs. Then the
-entries of the fog and light tables by ranges, and the registers that are written and not held, with the
-last value written. Names are those of the documents; ids are hexadecimal.
+Shows what the list in FILE (- for standard input) sets: each register that it writes, with what is
+then held, and each of the register's fields with its number in hexadecimal, what that stands for
+(the code's name, a float's value, else the number in decimal) and what it was before, where that
+differs. Then the entries of the fog and light tables by ranges, and the registers that are written
+and not held, with the last value written. Names are those of the documents; ids are hexadecimal.
 
   *            before a field or a range of entries: the list changes it
   =            the list writes it and leaves it as it was
-  --from FILE  what was before is what this list leaves in a state of zeros; without it all was zero.
+  --from FILE  what was before is what this list leaves in a state of zeros; else all was zero.
                Several lists joined are one: cat a.bin b.bin | pica show c.bin --from -
   --all        all fields, and all table entries that aren't zero
   --changes    only what the list changes
   --entries    table entries one by one
+  --json       one array of objects, one for each field, entry and register that isn't held: its
+               bits as value, what they stand for as meaning, and the same of what was before
 
 A list that leaves a code without a name in a register is shown too, and the exit status is then 1.
 
@@ -48,11 +51,12 @@ Examples
   pica show second.bin --from first.bin --changes
 ";
 
-const OPTIONS: [Known; 4] = [
+const OPTIONS: [Known; 5] = [
     ("--from", Some("a file")),
     ("--all", None),
     ("--changes", None),
     ("--entries", None),
+    ("--json", None),
 ];
 
 pub fn run(args: &[OsString], out: &mut Output) -> Outcome {
@@ -73,23 +77,22 @@ pub fn run(args: &[OsString], out: &mut Output) -> Outcome {
     if view.all && view.changes {
         return Err(wrong("show", "shows --all or --changes, not both"));
     }
-    match follow(path, from)? {
-        Ok((list, trace)) => {
-            head(path, &list, from, out)?;
-            let status = decoding(&trace.after, out)?;
-            let held = fields::show(&trace, view, out)?;
-            let entries = tables::show(&trace, view, out)?;
-            if !held && !entries {
-                let what = if view.changes { "changed" } else { "set" };
-                writeln!(out, "\nNothing that is held is {what}.")?;
-            }
-            if !view.changes {
-                unheld::show(&trace, out)?;
-            }
-            Ok(status)
-        }
-        Err(status) => Ok(status),
+    let (list, trace) = match follow(path, from)? {
+        Ok(followed) => followed,
+        Err(status) => return Ok(status),
+    };
+    let undecoded = undecoded(&trace.after);
+    if given.has("--json") {
+        undecoded.iter().for_each(|why| note(why));
+        objects::show(&trace, view, out)?;
+    } else {
+        head(path, &list, from, out)?;
+        undecoded
+            .iter()
+            .try_for_each(|why| writeln!(out, "{why}"))?;
+        lines(&trace, view, out)?;
     }
+    Ok(undecoded.map_or(Status::Well, |_| Status::Refused))
 }
 
 /// The list and what it does, on what the other one leaves; or the status where one of them is no accepted list.
@@ -125,12 +128,17 @@ fn stopped(refusal: Refusal) -> Failure {
     ))
 }
 
+fn counted(number: usize, what: &str) -> String {
+    let ending = if number == 1 { "" } else { "s" };
+    format!("{} {what}{ending}", grouped(number as u64))
+}
+
 fn head(path: &OsStr, list: &List, from: Option<&OsStr>, out: &mut Output) -> io::Result<()> {
-    let writes = grouped(list.writes.len() as u64);
-    let words = grouped(list.words.len() as u64);
+    let writes = counted(list.writes.len(), "write");
+    let words = counted(list.words.len(), "word");
     let was = match from {
-        Some(from) => format!("after {}", shown(from)),
-        None => String::from("after a state of zeros"),
+        Some(from) => format!("what {} leaves", shown(from)),
+        None => String::from("a state of zeros"),
     };
     let remark = match list.remark() {
         Some(remark) => format!(" ({remark})"),
@@ -138,31 +146,39 @@ fn head(path: &OsStr, list: &List, from: Option<&OsStr>, out: &mut Output) -> io
     };
     writeln!(
         out,
-        "{}: {writes} writes, {words} words, {was}{remark}",
+        "{}: {writes}, {words}, against {was}{remark}",
         shown(path)
     )
 }
 
-/// Says where a code without a name keeps the state from being decoded. What is shown are then the registers' bits.
-fn decoding(state: &State, out: &mut Output) -> Outcome {
-    let (words, Some(refusal)) = fields::of(state) else {
-        return Ok(Status::Well);
-    };
-    let (number, id) = (refusal.number, refusal.place);
+fn lines(trace: &Trace, view: View, out: &mut Output) -> io::Result<()> {
+    let held = fields::show(trace, view, out)?;
+    let entries = tables::show(trace, view, out)?;
+    if !held && !entries {
+        let what = if view.changes { "changed" } else { "set" };
+        writeln!(out, "\nNothing that is held is {what}.")?;
+    }
+    if view.changes {
+        return Ok(());
+    }
+    unheld::show(trace, out)
+}
+
+/// Where a code without a name keeps the state from being decoded. What is shown are then the registers' bits.
+fn undecoded(state: &State) -> Option<String> {
+    let (words, refusal) = fields::of(state);
+    let Refusal { number, place: id } = refusal?;
     let name = register_name(id).unwrap_or_default();
     let nameless = |(k, field): (usize, &Field)| {
-        field.register == id
-            && matches!(field.kind, Kind::Code(_))
-            && code_name(k, words[k]).is_none()
+        let has_codes = matches!(field.kind, Kind::Code(_));
+        field.register == id && has_codes && code_name(k, words[k]).is_none()
     };
     let why = if FIELDS.iter().enumerate().any(nameless) {
         "a code without a name"
     } else {
-        "an alpha mode 6 or 7, which only an RGB mode 7 allows"
+        "an alpha mode 6 or 7 without RGB mode 7"
     };
-    writeln!(
-        out,
-        "refused {number}: the state is not decoded, because {id:03X} {name} has {why}"
-    )?;
-    Ok(Status::Refused)
+    Some(format!(
+        "refused {number}: not decoded, because {id:03X} {name} has {why}"
+    ))
 }

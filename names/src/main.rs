@@ -14,6 +14,7 @@ mod rust;
 mod tables;
 mod text;
 
+use std::io::{self, Write};
 use std::{env, fs, process::ExitCode};
 
 use tables::Tables;
@@ -26,12 +27,11 @@ fn made(tables: &Tables) -> Result<[(&'static str, String); 2], String> {
     ])
 }
 
-fn write(tables: &Tables) -> Result<Vec<String>, String> {
+fn write(tables: &Tables) -> Result<(), String> {
     for (path, text) in made(tables)? {
         fs::write(path, text).map_err(|why| format!("{path}: {why}"))?;
-        println!("{path}: written");
     }
-    Ok(Vec::new())
+    Ok(())
 }
 
 fn check(tables: &Tables) -> Result<Vec<String>, String> {
@@ -45,25 +45,24 @@ fn check(tables: &Tables) -> Result<Vec<String>, String> {
         .collect())
 }
 
-fn run(argument: Option<&str>) -> Result<Vec<String>, String> {
+fn run(arguments: &[&str]) -> Result<Vec<String>, String> {
     let tables = tables::load()?;
     let mut faults = checks::faults(&tables)?;
-    match argument {
-        Some("--list") => print!("{}", list::list(&tables)),
-        Some("--check") => faults.extend(check(&tables)?),
-        None => faults.extend(write(&tables)?),
-        Some(other) => {
-            return Err(format!(
-                "{other} is no option: there are --check and --list"
-            ))
+    match arguments {
+        [] => write(&tables)?,
+        ["--check"] => faults.extend(check(&tables)?),
+        ["--list"] => {
+            let told = io::stdout().write_all(list::list(&tables).as_bytes());
+            told.map_err(|why| format!("standard output: {why}"))?;
         }
+        _ => return Err("give no argument, --check or --list".into()),
     }
     Ok(faults)
 }
 
 fn main() -> ExitCode {
     let arguments: Vec<String> = env::args().skip(1).collect();
-    match run(arguments.first().map(String::as_str)) {
+    match run(&arguments.iter().map(String::as_str).collect::<Vec<_>>()) {
         Ok(faults) => {
             faults.iter().for_each(|fault| eprintln!("{fault}"));
             ExitCode::from(u8::from(!faults.is_empty()))

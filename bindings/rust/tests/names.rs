@@ -117,23 +117,34 @@ fn registers() {
     assert_eq!((register_name(0x300), held_bits(0x300)), (None, 0));
 }
 
+/// Every constant with its name.
+macro_rules! constants {
+    ($($name:ident)*) => { [$((Refusal::$name, stringify!($name))),*] };
+}
+
 #[test]
 fn refusals() {
-    let named: Vec<u32> = (0..64).filter(|&n| refusal_name(n).is_some()).collect();
-    let numbers = (1..=14).filter(|&n| n != 11).chain([22]);
-    assert_eq!(named, numbers.collect::<Vec<u32>>());
-    for number in named {
+    let constants = constants! {
+        LIST_TOO_LONG WORDS_MISSING ID_ABOVE_2FF JUMP_REGISTER PORT_MASK BUFFER_LENGTH LENGTHS_DIFFER TOO_MANY_WRITES
+        MASK_ABOVE_15 NO_ROOM DEPTH_ABOVE_LARGEST CODE_WITHOUT_NAME NOT_BUILT NO_ROOM_FOR_WRITES
+    };
+    let named = (0..64).filter_map(|number| Some((number, refusal_name(number)?)));
+    assert_eq!(named.collect::<Vec<_>>(), constants);
+    for (number, name) in constants {
         let text = Refusal { number, place: 0 }.to_string();
         assert!(!text.contains("no number of the table"), "{text}");
-        assert!(refusal_text(number).is_some() && refusal_advice(number).is_some());
+        assert!(
+            refusal_text(number).is_some() && refusal_advice(number).is_some(),
+            "{name}"
+        );
     }
-    assert_eq!(refusal_name(Refusal::NOT_BUILT), Some("NOT_BUILT"));
     assert_eq!((refusal_text(11), refusal_advice(u32::MAX)), (None, None));
-    let unknown = Refusal {
+    let text = Refusal {
         number: 11,
         place: 0,
-    };
-    assert_eq!(unknown.to_string(), "refusal 11: no number of the table");
+    }
+    .to_string();
+    assert_eq!(text, "refusal 11: no number of the table");
 }
 
 /// The numbers that the floats of `examples/triangle-state.bin` stand for: a viewport of 240 by 400.

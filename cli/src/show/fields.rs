@@ -7,7 +7,7 @@ use pica::{Refusal, State, FIELDS_LENGTH};
 
 use super::mark::{Mark, View};
 use super::numbers::{hexadecimal, meaning};
-use super::trace::Trace;
+use super::trace::{Trace, Written};
 use crate::output::Output;
 use crate::text::grouped;
 
@@ -23,69 +23,111 @@ pub fn of(state: &State) -> ([u32; FIELDS_LENGTH], Option<Refusal>) {
     }
 }
 
-/// Shows the registers of which there is something to show, and tells whether there was one.
-pub fn show(trace: &Trace, view: View, out: &mut Output) -> io::Result<bool> {
+/// A held register of which there is something to show.
+pub struct Register {
+    pub id: u32,
+    written: Written,
+    /// What it held, and what it holds.
+    held: [u32; 2],
+    pub fields: Vec<Shown>,
+}
+
+/// A field that is shown.
+pub struct Shown {
+    /// Its index in the table of fields.
+    pub field: usize,
+    pub mark: Mark,
+    pub before: u32,
+    pub after: u32,
+}
+
+pub fn registers(trace: &Trace, view: View) -> Vec<Register> {
     let fields: Vec<usize> = (0..FIELDS_LENGTH).collect();
     let (before, after) = (of(&trace.before).0, of(&trace.after).0);
-    let mut any = false;
-    for group in fields.chunk_by(|&a, &b| FIELDS[a].register == FIELDS[b].register) {
+    let groups = fields.chunk_by(|&a, &b| FIELDS[a].register == FIELDS[b].register);
+    let register = |group: &[usize]| {
         let id = FIELDS[group[0]].register;
         let written = trace.registers.get(&id).copied().unwrap_or_default();
-        let marked = |&k: &usize| {
-            let is_written = FIELDS[k].mask() & written.bits != 0;
-            (k, Mark::of(before[k] != after[k], is_written))
+        let shown = |&field: &usize| {
+            let (before, after) = (before[field], after[field]);
+            let is_written = FIELDS[field].mask() & written.bits != 0;
+            let mark = Mark::of(before != after, is_written);
+            view.shows(mark).then_some(Shown {
+                field,
+                mark,
+                before,
+                after,
+            })
         };
-        let shown = group
-            .iter()
-            .map(marked)
-            .filter(|&(_, mark)| view.shows(mark));
-        let lines: Vec<String> = shown
-            .map(|(k, mark)| line(k, mark, before[k], after[k]))
-            .collect();
-        let sets_nothing = written.count > 0 && written.bits & held_bits(id) == 0;
-        if lines.is_empty() && (view.changes || !sets_nothing) {
-            continue;
+        let held =
+            [&trace.before, &trace.after].map(|state| state.cells()[id as usize] & held_bits(id));
+        let fields = group.iter().filter_map(shown).collect();
+        Register {
+            id,
+            written,
+            held,
+            fields,
         }
-        let space = if any { "" } else { "\n" };
-        writeln!(
-            out,
-            "{space}{}",
-            head(trace, id, written.count, sets_nothing)
-        )?;
-        for line in lines {
-            writeln!(out, "{line}")?;
-        }
-        any = true;
-    }
-    Ok(any)
-}
-
-/// A register's line: what it holds, and what is out of the ordinary about its writes.
-fn head(trace: &Trace, id: u32, count: usize, sets_nothing: bool) -> String {
-    let [was, held] =
-        [&trace.before, &trace.after].map(|state| state.cells()[id as usize] & held_bits(id));
-    let writes = grouped(count as u64);
-    let remark = match count {
-        0 if held != was => String::from("   by uploads"),
-        0 => String::from("   not written"),
-        _ if sets_nothing => format!("   writes: {writes}, none to a byte with held bits"),
-        1 => String::new(),
-        _ => format!("   writes: {writes}"),
     };
-    let name = register_name(id).unwrap_or_default();
-    format!("{id:03X} {name:<38} {held:08X}{remark}")
+    let something = |r: &Register| !r.fields.is_empty() || r.sets_nothing() && !view.changes;
+    groups.map(register).filter(something).collect()
 }
 
-/// A field's line: its mark, its name, its number, what that stands for, and what it was.
-fn line(field: usize, mark: Mark, before: u32, after: u32) -> String {
-    let (name, number) = (FIELDS[field].name, hexadecimal(field, after));
-    let text = format!("  {mark} {name:<38} {number:>8}  {}", meaning(field, after));
-    if before == after {
-        return text;
+/// Shows the registers, and tells whether there was one.
+pub fn show(trace: &Trace, view: View, out: &mut Output) -> io::Result<bool> {
+    let registers = registers(trace, view);
+    for (k, register) in registers.iter().enumerate() {
+        let space = if k == 0 { "\n" } else { "" };
+        writeln!(out, "{space}{}", register.line())?;
+        for field in &register.fields {
+            writeln!(out, "{}", field.line())?;
+        }
     }
-    let (number, was) = (hexadecimal(field, before), meaning(field, before));
-    if number == was {
-        return format!("{text:<82} was {number}");
+    Ok(!registers.is_empty())
+}
+
+impl Register {
+    /// Whether it is written, and in none of the bytes that have held bits.
+    fn sets_nothing(&self) -> bool {
+        self.written.count > 0 && self.written.bits & held_bits(self.id) == 0
     }
-    format!("{text:<82} was {number}, {was}")
+
+    /// What it holds, and what is out of the ordinary about its writes.
+    fn line(&self) -> String {
+        let ([was, held], count) = (self.held, self.written.count);
+        let writes = grouped(count as u64);
+        let remark = match count {
+            0 if held != was => String::from("   by uploads"),
+            0 => String::from("   not written"),
+            _ if self.sets_nothing() => {
+                format!("   writes: {writes}, none to a byte with held bits")
+            }
+            1 => String::new(),
+            _ => format!("   writes: {writes}"),
+        };
+        let (id, name) = (self.id, register_name(self.id).unwrap_or_default());
+        format!("{id:03X} {name:<38} {held:08X}{remark}")
+    }
+}
+
+impl Shown {
+    /// Its mark, its name, its number, what that stands for, and what it was.
+    fn line(&self) -> String {
+        let Self {
+            field,
+            mark,
+            before,
+            after,
+        } = *self;
+        let (name, number) = (FIELDS[field].name, hexadecimal(field, after));
+        let text = format!("  {mark} {name:<38} {number:>8}  {}", meaning(field, after));
+        if before == after {
+            return text;
+        }
+        let (number, was) = (hexadecimal(field, before), meaning(field, before));
+        if number == was {
+            return format!("{text:<82} was {number}");
+        }
+        format!("{text:<82} was {number}, {was}")
+    }
 }

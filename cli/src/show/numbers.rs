@@ -2,10 +2,13 @@
 
 use pica::names::{code_name, Kind, FIELDS};
 
-/// The field's bits in hexadecimal.
+/// The field's bits: a signed one's too.
+pub fn bits(field: usize, word: u32) -> u32 {
+    word & FIELDS[field].mask() >> FIELDS[field].low
+}
+
 pub fn hexadecimal(field: usize, word: u32) -> String {
-    let field = &FIELDS[field];
-    format!("{:X}", word & field.mask() >> field.low)
+    format!("{:X}", bits(field, word))
 }
 
 /// The code's name, the float's value, or the number in decimal.

@@ -133,4 +133,29 @@ mod tests {
         assert_eq!((trace.after.fog()[127], trace.after.fog()[0]), (1, 2));
         assert_eq!(trace.registers[&0x1C8].count, 2);
     }
+
+    /// What is left is what reading the list leaves.
+    #[test]
+    fn following_is_reading() {
+        let mut seed = 1_u64;
+        let mut random = |below: u32| {
+            seed = seed.wrapping_mul(6_364_136_223_846_793_005).wrapping_add(1);
+            (seed >> 33) as u32 % below
+        };
+        for _ in 0..50 {
+            let writes: Vec<Write> = (0..200)
+                .map(|_| {
+                    let id = [0x40 + random(0x100), 0xE6 + random(10), 0x1C5 + random(11)]
+                        [random(3) as usize];
+                    let mask = if port(id).is_some() { 15 } else { random(16) };
+                    let value = random(1 << 31) ^ random(2) << 31;
+                    Write { id, mask, value }
+                })
+                .collect();
+            let mut read = State::default();
+            read.read(&pica::packed(&writes).unwrap()).unwrap();
+            let trace = Trace::follow(State::default(), &writes).unwrap();
+            assert!(trace.after == read);
+        }
+    }
 }
