@@ -58,7 +58,7 @@ pub same-refusal : {s t : State} {l is ms vs is′ ms′ vs′ : List ℕ} {why 
     → ReadCall s l (list-verdict.Refused why) t → sized s ≡ true → WritesCall l is ms vs r is′ ms′ vs′ → OneLength is ms vs
     → r ≡ list-verdict.Refused why
 same-refusal {s} {l = l} {is} {ms} {vs} {why = why} {r} d z c o =
-    told-one r _ (writes-call c .0 ∙ as-read s l is ms vs z o (why .number) (why .place) (sym (read-call d .0)))
+    told-one r _ (writes-call c .0 ∙ as-read l is ms vs s z o (why .number) (why .place) (sym (read-call d .0)))
 
 -- AN ANSWER: the first n places are the list's expansion, and those past them are as they were
 pub record ListedIn (l is ms vs is′ ms′ vs′ : List ℕ) (n : ℕ) : Type 0 where

@@ -28,7 +28,7 @@ use Rattle.pica.specs.Calls.{call, answer, decodeCall, givenOf, storedOf, fragm
 use Rattle.pica.proofs.Uncut.{valueIn, read-uncut, write-uncut, writes-uncut, pack-uncut, placeOf, decode-uncut, drawnValue, fragment-uncut}
 use Rattle.demands.specs.Refusals.{In, FaultNumber, CommandRefused, ReadRefused, WriteRefused, WritesRefused, PackRefused}
 use Rattle.demands.specs.FragmentRefusals.{DecodeRefused, DrawRefused}
-use Rattle.demands.proofs.Refusals.{read-row, write-row}
+use Rattle.demands.proofs.Refusals.{fault-numbered, read-row, write-row}
 use Rattle.demands.proofs.RunRefusals.{pack-row}
 use Rattle.demands.proofs.Listed.{writes-row}
 use Rattle.demands.proofs.FragmentRefusals.{decode-row, draw-row}
@@ -55,12 +55,6 @@ taken (refused r p) h z =
     rw (ne-eqb (call r p / 0x100000000) 0 (λ e. z r p refl (sym d ∙ e)), d, m)
 
 -- the rows have other numbers
-fault-numbered : (n : ℕ) → FaultNumber n → n ≡ 0 → ⊥
-fault-numbered n (inl e) z = omega arith
-fault-numbered n (inr (inl e)) z = omega arith
-fault-numbered n (inr (inr (inl e))) z = omega arith
-fault-numbered n (inr (inr (inr e))) z = e
-
 command-numbered : (l : List ℕ) (n p : ℕ) → CommandRefused l n p → n ≡ 0 → ⊥
 command-numbered l n p r z = ⊎-elim (λ x. omega (arith, x .0)) (λ x. fault-numbered n (x .1) z) (r .why)
 

@@ -14,5 +14,6 @@ pub mod Examples
 pub mod Drawing
 pub mod Calls
 pub mod EndToEnd
+pub mod Accepts
 pub mod Between
 pub mod FromC

@@ -42,6 +42,12 @@ fault-number i m =
     pick-either P (ltb 0x2FF i) (inr (inl refl))
     (pick-either P (jumps i) (inr (inr (inl refl))) (pick-either P (portData i && not (eqb m 15)) (inr (inr (inr (inl refl)))) (inl refl)))
 
+pub fault-numbered : (n : ℕ) → FaultNumber n → n ≡ 0 → ⊥
+fault-numbered n (inl e) z = omega arith
+fault-numbered n (inr (inl e)) z = omega arith
+fault-numbered n (inr (inr (inl e))) z = omega arith
+fault-numbered n (inr (inr (inr e))) z = e
+
 first-number : (ws : List Write) → Perhaps (3 ∷ 4 ∷ 5 ∷ []) (firstFault ws)
 unfolding firstFault
 first-number [] = inl refl
