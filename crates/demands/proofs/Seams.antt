@@ -1,16 +1,19 @@
--- A run that is packed in parts: the parts' lists, joined, say the whole run, with at most two words a seam more than its shortest list.
--- Assumes nothing.
+-- A run that is packed in parts: the parts' lists, joined, say the whole run, with at most two words a seam more than its shortest list,
+-- and none for a seam that no command can go across. Assumes nothing.
 use mathlib.Core.Path.{_≡_, refl, _∙_}
+use mathlib.Core.Bool.{Bool, true, false}
 use mathlib.Core.List.{List, [], _∷_, _++_, append-nil}
 use Prim.Native.Nat.{ℕ, _+_, _*_, _≤_}
 use native.Mathlib.Omega.{arith}
 use lib.ListN.{length, length-append}
+use Rattle.numbers.specs.Pick.{pick}
 use Rattle.words.specs.Writes.{Write}
+use Rattle.runs.specs.Span.{apart}
 use Rattle.runs.specs.PackedList.{packed}
 use Rattle.runs.specs.Shortest.{Says}
 use Rattle.runs.proofs.PackedList.{packed-none}
 use Rattle.runs.proofs.Shortest.{packed-least, packed-shortest}
-use Rattle.runs.proofs.Seams.{packed-seam}
+use Rattle.runs.proofs.Seams.{packed-seam, packed-apart, apart-joined}
 use Rattle.runs.proofs.Joined.{joined-says}
 use Rattle.demands.specs.Said.{Said}
 use Rattle.demands.proofs.Said.{said-packable}
@@ -44,13 +47,34 @@ parts-say (a ∷ rest) s =
 pub parts-bound : (rs : List (List Write)) → EachSaid rs → length (packed (joinedRun rs)) ≤ length (joinedLists rs)
 parts-bound rs s = packed-least (joinedRun rs) (joinedLists rs) (parts-say rs s)
 
-packed-seams : (a : List Write) (rest : List (List Write))
-    → length (joinedLists (a ∷ rest)) ≤ length (packed (joinedRun (a ∷ rest))) + 2 * length rest
-packed-seams a [] = rw (append-nil a, append-nil (packed a)) (omega arith)
-packed-seams a (b ∷ bs) =
-    omega (arith, packed-seams b bs, packed-seam a (joinedRun (b ∷ bs)), length-append (packed a) (joinedLists (b ∷ bs)))
+-- HOW MANY SEAMS COUNT: those that a command may go across. Where two parts are apart none can
+abbrev pub loose : List Write → List (List Write) → ℕ
+loose a [] = 0
+loose a (b ∷ rest) = pick (apart a b) 0 1 + loose b rest
 
--- and at most two words a seam more than those of any accepted list that says it
-pub seams : (a : List Write) (rest : List (List Write)) (l : List ℕ) → Says (joinedRun (a ∷ rest)) l
-    → length (joinedLists (a ∷ rest)) ≤ length l + 2 * length rest
-seams a rest l s = omega (arith, packed-seams a rest, packed-least (joinedRun (a ∷ rest)) l s)
+by-seam : (a b : List Write) (rest : List (List Write)) (t : Bool) → apart a b ≡ t → 1 ≤ length b
+    → length (packed a) + length (packed (joinedRun (b ∷ rest))) ≤ length (packed (a ++ joinedRun (b ∷ rest))) + 2 * pick t 0 1
+by-seam a b rest true e n = omega (arith, packed-apart a (joinedRun (b ∷ rest)) (apart-joined a b (joinedRun rest) n e))
+by-seam a b rest false e n = omega (arith, packed-seam a (joinedRun (b ∷ rest)))
+
+-- the parts after the first aren't empty
+abbrev pub EachSome : List (List Write) → Type 0
+EachSome [] = Unit {0}
+EachSome (b ∷ rest) = (1 ≤ length b) × EachSome rest
+
+packed-seams : (a : List Write) (rest : List (List Write)) → EachSome rest
+    → length (joinedLists (a ∷ rest)) ≤ length (packed (joinedRun (a ∷ rest))) + 2 * loose a rest
+packed-seams a [] n = rw (append-nil a, append-nil (packed a)) (omega arith)
+packed-seams a (b ∷ bs) n =
+    omega
+    (arith, packed-seams b bs (n .1), by-seam a b bs (apart a b) refl (n .0), length-append (packed a) (joinedLists (b ∷ bs)))
+
+-- at most two words for each seam that counts more than those of any accepted list that says the run
+pub seams : (a : List Write) (rest : List (List Write)) (l : List ℕ) → EachSome rest → Says (joinedRun (a ∷ rest)) l
+    → length (joinedLists (a ∷ rest)) ≤ length l + 2 * loose a rest
+seams a rest l n s = omega (arith, packed-seams a rest n, packed-least (joinedRun (a ∷ rest)) l s)
+
+-- so where no seam counts, the parts' lists joined are as short as any that says the run: its length is known, not only bounded
+pub seams-exact : (a : List Write) (rest : List (List Write)) → EachSaid (a ∷ rest) → EachSome rest → loose a rest ≡ 0
+    → length (joinedLists (a ∷ rest)) ≡ length (packed (joinedRun (a ∷ rest)))
+seams-exact a rest s n z = omega (arith, packed-seams a rest n, parts-bound (a ∷ rest) s)

@@ -1,5 +1,5 @@
 -- How many of the first writes of a run one command can carry.
-use mathlib.Core.Bool.{Bool, true, _&&_}
+use mathlib.Core.Bool.{Bool, true, not, _&&_}
 use mathlib.Core.List.{List, [], _∷_}
 use Prim.Native.Nat.{ℕ, suc, _+_, min, max}
 use lib.Dec.{eqb}
@@ -19,3 +19,10 @@ chain s (a ∷ l) = let n = chain s l in pick (leads s a l) (suc n) 1
 -- THE SPAN: at most 256 writes of one mask, of one id or of ids that rise by one; at least one, if there is a write
 unfoldable pub span : List Write → ℕ
 span l = min 256 (max (chain 0 l) (chain 1 l))
+
+-- NOT OF THE DOCUMENT: no command carries the last write of a run and the first of another, since their masks differ or the id neither
+-- stays nor rises by one
+abbrev pub apart : List Write → List Write → Bool
+apart [] b = true
+apart (w ∷ []) b = not (leads 0 w b) && not (leads 1 w b)
+apart (w ∷ v ∷ a) b = apart (v ∷ a) b
