@@ -26,9 +26,10 @@ list a line tells its words, its register writes, the words of the shortest list
 writes in the same order, and what that saves; then come the totals. A list that is refused or
 unreadable gets its line too, and is left out of the totals.
 
-No list that says the same is shorter than what is told: that is proved. Of over 4,096 writes two
-bounds are told, at least and at most; the columns then have what is sure: the longest that the
-shortest list can be, and the least that it saves.
+No list that says the same is shorter than what is told: that is proved. Over 4,096 writes are
+packed in parts, and where a cut between parts may cost something two bounds are told, at least and
+at most; the columns then have what is sure: the longest that the shortest list can be, and the
+least that it saves.
 
   --rate N      words a second, as 1000000 or 0.5: how long the lists take in hours, minutes and
                 seconds, as captured and at their shortest. Times of a minute and more are rounded

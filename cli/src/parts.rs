@@ -4,9 +4,6 @@ use std::ops::Range;
 
 use pica::{pack, Refusal, Write, RUN_LENGTH_MOST};
 
-/// One command carries at most so many writes, so that a cut is looked for no further back.
-const COMMAND_MOST: usize = 256;
-
 /// A run's ids, masks and values, as the packer takes them.
 pub struct Run {
     ids: Vec<u32>,
@@ -14,7 +11,8 @@ pub struct Run {
     values: Vec<u32>,
 }
 
-/// The fewest words that say a run: at least and at most so many. The two are equal for at most 4,096 writes.
+/// The fewest words that say a run: at least and at most so many. The two are equal for at most 4,096 writes, and for more where each
+/// seam stands between two writes that no command carries both.
 #[derive(Clone, Copy, Debug, Default, PartialEq, Eq)]
 pub struct Shortest {
     pub least: u64,
@@ -30,15 +28,14 @@ impl Run {
         }
     }
 
-    /// The parts, as few as can be. Any cut is right; between two writes that no command carries both it costs nothing, so that the
-    /// last such place is taken, as far as the parts after it then hold the rest.
+    /// The parts. Any cut is right; between two writes that no command carries both it costs nothing, so that each part ends at the
+    /// last such place, and only where there is none with as many writes as may be.
     pub fn parts(&self) -> Vec<Range<usize>> {
         let length = self.ids.len();
         let (mut parts, mut start) = (Vec::new(), 0);
-        for after in (1..length.div_ceil(RUN_LENGTH_MOST)).rev() {
+        while length - start > RUN_LENGTH_MOST {
             let last = start + RUN_LENGTH_MOST;
-            let first = (length - after * RUN_LENGTH_MOST).max(last - COMMAND_MOST);
-            let end = (first..=last)
+            let end = (start + 1..=last)
                 .rev()
                 .find(|&cut| self.is_apart(cut))
                 .unwrap_or(last);
@@ -80,15 +77,16 @@ impl Run {
     }
 
     /// The bounds on the shortest list of a run that a list of so many words says: at most the sum of its parts, and at most that list;
-    /// at least the sum less two words a seam.
+    /// at least the sum less two words for each seam that a command may go across.
     pub fn shortest(&self, own: u64) -> Result<Shortest, Refusal> {
         let parts = self.parts();
         let words = parts
             .iter()
             .map(|part| self.words_of(part))
             .sum::<Result<u64, Refusal>>()?;
-        let seams = parts.len() as u64 - 1;
-        let (least, most) = (words.saturating_sub(2 * seams), words.min(own));
+        let seams = parts.iter().skip(1).map(|part| part.start);
+        let loose = seams.filter(|&cut| !self.is_apart(cut)).count() as u64;
+        let (least, most) = (words.saturating_sub(2 * loose), words.min(own));
         Ok(Shortest {
             least: least.min(most),
             most,
@@ -146,19 +144,22 @@ mod tests {
         assert_eq!(
             long.shortest(u64::MAX),
             Ok(Shortest {
-                least: 1366 * 4 - 2,
+                least: 1366 * 4,
                 most: 1366 * 4
             })
         );
-        // there is no room to cut elsewhere: 4,096 is no such place
+        // a part more costs nothing
         assert_eq!(
             ends(&run((0..8192).map(|k| if k / 3 % 2 == 0 { 2 } else { 4 }))),
-            [4096, 8192]
+            [4095, 8190, 8192]
         );
-        assert_eq!(
-            ends(&run((0..8190).map(|k| if k / 3 % 2 == 0 { 2 } else { 4 }))),
-            [4095, 8190]
-        );
+        // far from the limit too: 4,000 writes to 2, and then 4,000 to 4
+        let two = run((0..8000).map(|k| if k < 4000 { 2 } else { 4 }));
+        assert_eq!(ends(&two), [4000, 8000]);
+        let Ok(Shortest { least, most }) = two.shortest(u64::MAX) else {
+            panic!("allowed writes are packed");
+        };
+        assert_eq!(least, most);
         // one id all along can be cut nowhere without loss: commands of 255 writes take 256 words, so that the first part takes
         // 16 of them and 18 words for 16 writes, the second 4 words; in one list the last 18 writes take 20 words
         let same = run((0..4098).map(|_| 0x41));

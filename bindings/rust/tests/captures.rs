@@ -33,6 +33,24 @@ fn shortest(run: &[Write]) -> usize {
     }
 }
 
+/// A run in parts that can be packed, each cut off where no command carries both the write before the cut and the one after it: there
+/// the parts' lists, joined, are as short as one list for all of them.
+fn parts(mut run: &[Write]) -> Vec<&[Write]> {
+    let mut parts = Vec::new();
+    while run.len() > RUN_LENGTH_MOST {
+        let is_apart = |&cut: &usize| {
+            let (before, after) = (run[cut - 1], run[cut]);
+            before.mask != after.mask || ![before.id, before.id + 1].contains(&after.id)
+        };
+        let cut = (1..=RUN_LENGTH_MOST).rev().find(is_apart);
+        let (part, rest) = run.split_at(cut.expect("the captures can be cut without loss"));
+        parts.push(part);
+        run = rest;
+    }
+    parts.push(run);
+    parts
+}
+
 /// The row's columns behind the file's name and what it is: words, writes, verdict, shortest.
 fn row_of(name: &str) -> [String; 4] {
     let list = list(name);
@@ -43,14 +61,9 @@ fn row_of(name: &str) -> [String; 4] {
             [words, "–".to_string(), verdict, "–".to_string()]
         }
         Ok(run) => {
-            let parts: Vec<usize> = run.chunks(RUN_LENGTH_MOST).map(shortest).collect();
-            let most: usize = parts.iter().sum();
-            let least = most - 2 * (parts.len() - 1);
-            let shortest = match parts.len() {
-                1 => most.to_string(),
-                _ => format!("{least} to {most}"),
-            };
-            [words, run.len().to_string(), "ok".to_string(), shortest]
+            let shortest: usize = parts(&run).into_iter().map(shortest).sum();
+            let writes = run.len().to_string();
+            [words, writes, "ok".to_string(), shortest.to_string()]
         }
     }
 }
