@@ -243,10 +243,10 @@ enum pica_stored {
  */
 enum pica_field {
     PICA_FIELD_CULLING = 0,     /* 40 */
-    PICA_FIELD_VIEWPORT_WIDTH,  /* 41 */
-    PICA_FIELD_VIEWPORT_INVW,   /* 42 */
-    PICA_FIELD_VIEWPORT_HEIGHT, /* 43 */
-    PICA_FIELD_VIEWPORT_INVH,   /* 44 */
+    PICA_FIELD_VIEWPORT_WIDTH,  /* 41: half of it */
+    PICA_FIELD_VIEWPORT_INVW,   /* 42: 2 / width */
+    PICA_FIELD_VIEWPORT_HEIGHT, /* 43: half of it */
+    PICA_FIELD_VIEWPORT_INVH,   /* 44: 2 / height */
     PICA_FIELD_CLIP_ENABLE,     /* 47 */
     PICA_FIELD_CLIP_DATA0,      /* 48-4B */
     PICA_FIELD_CLIP_DATA1,
@@ -255,9 +255,9 @@ enum pica_field {
     PICA_FIELD_DEPTHMAP_SCALE,  /* 4D */
     PICA_FIELD_DEPTHMAP_OFFSET, /* 4E */
     PICA_FIELD_SCISSOR_MODE,    /* 65 */
-    PICA_FIELD_SCISSOR_POS_X,   /* 66 */
+    PICA_FIELD_SCISSOR_POS_X,   /* 66: the first corner */
     PICA_FIELD_SCISSOR_POS_Y,
-    PICA_FIELD_SCISSOR_DIM_X,   /* 67 */
+    PICA_FIELD_SCISSOR_DIM_X,   /* 67: the last corner, and no size */
     PICA_FIELD_SCISSOR_DIM_Y,
     PICA_FIELD_VIEWPORT_XY_X,   /* 68, signed */
     PICA_FIELD_VIEWPORT_XY_Y,

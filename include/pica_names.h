@@ -163,7 +163,8 @@ static inline const char *pica_code_name(uint32_t field, uint32_t value) {
             "Keep", "Zero", "Replace", "Increment", "Decrement", "Invert", "Increment and wrap", "Decrement and wrap",
         },
         { /* allow */
-            "Disable", 0, 0, 0, 0, 0, 0, 0, 0, 0, 0, 0, 0, 0, 0, "Enable",
+            "Disable", "Same as F?", "Same as F?", "Same as F?", "Same as F?", "Same as F?", "Same as F?", "Same as F?",
+            "Same as F?", "Same as F?", "Same as F?", "Same as F?", "Same as F?", "Same as F?", "Same as F?", "Enable",
         },
         { /* depth-format */
             "16-bit depth", 0, "24-bit depth", "24-bit depth + 8-bit stencil",
@@ -380,7 +381,7 @@ static inline const char *pica_refusal_text(uint32_t number) {
     case 12: return "a depth above the format's largest: place 0 incoming, 1 stored";
     case 13: return "a code without a name, at the register whose id is the place";
     case 14:
-        return "not built, at the register whose id is the place: E0 fog mode not 0; 100 mode not 0, bit 8, 24 or 25; 117 not size 2, format 0";
+        return "not built, at the place's register: E0 fog mode not 0; 100 mode not 0, bit 8, 24 or 25 set; 117 not size 2 with format 0";
     case 22: return "the buffers have fewer places than the list has writes";
     default: return NULL;
     }
@@ -396,7 +397,7 @@ static inline const char *pica_refusal_advice(uint32_t number) {
     case 5: return "a fog or light table is written whole words only";
     case 6: return "lend 768 cells, 128 fog entries, 6,144 light entries";
     case 7: return "lend three buffers of one length";
-    case 8: return "pack the run in parts: their lists, joined, say it, and may be longer than the shortest by at most two words a seam";
+    case 8: return "pack the run in parts: their lists, joined, say it in one list up to 65,536 words, with at most two words more a seam";
     case 9: return "a mask is four bits";
     case 10: return "lend the words that the place names";
     case 12: return "give at most 65,535 for depth format 0, else 16,777,215";

@@ -103,7 +103,9 @@ const STENCIL_OP: Codes = &[
 ];
 
 const ALLOW: Codes = &[
-    (0x0, "Disable"), (0xF, "Enable"),
+    (0x0, "Disable"), (0x1, "Same as F?"), (0x2, "Same as F?"), (0x3, "Same as F?"), (0x4, "Same as F?"), (0x5, "Same as F?"),
+    (0x6, "Same as F?"), (0x7, "Same as F?"), (0x8, "Same as F?"), (0x9, "Same as F?"), (0xA, "Same as F?"), (0xB, "Same as F?"),
+    (0xC, "Same as F?"), (0xD, "Same as F?"), (0xE, "Same as F?"), (0xF, "Enable"),
 ];
 
 const DEPTH_FORMAT: Codes = &[
@@ -548,7 +550,7 @@ pub static REFUSALS: [RefusalText; 14] = [
         name: "TOO_MANY_WRITES",
         reason: "over 4,096 writes",
         text: "over 4,096 writes",
-        advice: "pack the run in parts: their lists, joined, say it, and may be longer than the shortest by at most two words a seam",
+        advice: "pack the run in parts: their lists, joined, say it in one list up to 65,536 words, with at most two words more a seam",
     },
     RefusalText {
         number: 9,
@@ -582,7 +584,7 @@ pub static REFUSALS: [RefusalText; 14] = [
         number: 14,
         name: "NOT_BUILT",
         reason: "not built",
-        text: "not built, at the register whose id is the place: E0 fog mode not 0; 100 mode not 0, bit 8, 24 or 25; 117 not size 2, format 0",
+        text: "not built, at the place's register: E0 fog mode not 0; 100 mode not 0, bit 8, 24 or 25 set; 117 not size 2 with format 0",
         advice: "the fragment's result isn't told for such a state",
     },
     RefusalText {
