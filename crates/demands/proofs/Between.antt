@@ -1,6 +1,6 @@
 -- BETWEEN A LIST AND ITS WRITES, from the contracts alone: a list's writes, packed, applied one after another, and a packed list's writes.
 -- Assumes nothing.
-use mathlib.Core.Path.{_≡_, refl, sym, ap, _∙_}
+use mathlib.Core.Path.{_≡_, sym, ap, _∙_}
 use mathlib.Core.Bool.{true}
 use mathlib.Core.List.{List, [], _∷_, _++_, map}
 use mathlib.Core.Logic.{_⊎_, inl, inr, ⊎-elim}
@@ -9,8 +9,7 @@ use native.Mathlib.Omega.{arith}
 use lib.ListN.{length, take, drop, length-map}
 use lib.Seq.{take-at, drop-at}
 use borrow.Author.Tests.{eqb-true}
-use Rattle.numbers.specs.Answer.{answered, refused}
-use Rattle.numbers.specs.Room.{spaceAfter}
+use Rattle.numbers.specs.Answer.{answered}
 use Rattle.words.specs.Writes.{Write, idsIn, masksIn, valuesIn, faultOf}
 use Rattle.words.specs.Commands.{expansion, wellFormed}
 use Rattle.words.specs.declared.Refusal.{Refusal}

@@ -12,7 +12,7 @@ use lib.ListN.{length, take, drop}
 use lib.Seq.{take-at, drop-at}
 use borrow.Author.Tests.{ltb-false, eq-eqb}
 use Rattle.numbers.specs.Pick.{pick}
-use Rattle.numbers.specs.Answer.{answered, refused}
+use Rattle.numbers.specs.Answer.{answered}
 use Rattle.numbers.proofs.Answers.{told-apart}
 use Rattle.words.specs.Writes.{Write, faultOf, allowed}
 use Rattle.words.proofs.Laws.{allowed-fault}

@@ -26,7 +26,7 @@ use Rattle.fragment.specs.declared.Drawn.{Drawn}
 use Rattle.fragment.specs.declared.Drawn.the-variants as drawn
 use Rattle.pica.specs.Calls.{call, answer, decodeCall, givenOf, storedOf, fragmentOf, fragmentCall}
 use Rattle.pica.proofs.Uncut.{valueIn, read-uncut, write-uncut, writes-uncut, pack-uncut, placeOf, decode-uncut, drawnValue, fragment-uncut}
-use Rattle.demands.specs.Refusals.{In, FaultNumber, CommandRefused, ReadRefused, WriteRefused, WritesRefused, PackRefused}
+use Rattle.demands.specs.Refusals.{In, CommandRefused, ReadRefused, WriteRefused, WritesRefused, PackRefused}
 use Rattle.demands.specs.FragmentRefusals.{DecodeRefused, DrawRefused}
 use Rattle.demands.proofs.Refusals.{fault-numbered, read-row, write-row}
 use Rattle.demands.proofs.RunRefusals.{pack-row}

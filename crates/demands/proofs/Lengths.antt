@@ -4,7 +4,7 @@ use mathlib.Core.List.{List}
 use Prim.Native.Nat.{ℕ}
 use lib.Bits.{bitAnd}
 use lib.Dec.{eqb}
-use lib.ListN.{length, getD, set, length-set}
+use lib.ListN.{length, getD, length-set}
 use Rattle.numbers.specs.Bits.{spread, merge}
 use Rattle.numbers.proofs.Picks.{pick-either}
 use Rattle.words.specs.Writes.{Write, fogData, lightData}

@@ -1,16 +1,15 @@
 -- What isn't held is never read: states that agree on the held bits and on the entries' low 24 bits agree on them after any run of writes.
 -- Assumes nothing.
-use mathlib.Core.Path.{_≡_, refl, sym, ap, _∙_}
+use mathlib.Core.Path.{_≡_, sym, ap, _∙_}
 use mathlib.Core.Bool.{Bool, true, false}
 use mathlib.Core.List.{List, [], _∷_}
 use Prim.Native.Nat.{ℕ, _+_, _*_, _/_, _%_, _<_}
 use native.Mathlib.Omega.{arith}
 use lib.Bits.{bitAnd, and-mask}
 use lib.Dec.{eqb}
-use lib.ListN.{length, getD, set, length-set}
+use lib.ListN.{getD, set}
 use Rattle.numbers.specs.Pick.{pick}
 use Rattle.numbers.specs.Bits.{spread, merge}
-use Rattle.numbers.proofs.Picks.{pick-either}
 use Rattle.words.specs.Writes.{Write, fogData, lightData}
 use Rattle.registers.specs.State.{State, st}
 use Rattle.registers.specs.Held.{held, bitsIn, bitsOf}

@@ -1,6 +1,6 @@
 -- A run that is packed in parts: the parts' lists, joined, say the whole run, with at most two words a seam more than its shortest list,
 -- and none for a seam that no command can go across. Assumes nothing.
-use mathlib.Core.Path.{_≡_, refl, _∙_}
+use mathlib.Core.Path.{_≡_, refl}
 use mathlib.Core.Bool.{Bool, true, false}
 use mathlib.Core.List.{List, [], _∷_, _++_, append-nil}
 use Prim.Native.Nat.{ℕ, _+_, _*_, _≤_}

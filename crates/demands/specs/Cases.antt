@@ -5,7 +5,7 @@ use Prim.Native.Nat.{ℕ, zero, suc, _+_, _*_}
 use lib.IntN.{ℤ, pos, negsuc}
 use lib.ListN.{length, getD, set, replicate}
 use Rattle.numbers.specs.Answer.{Answer, answered, refused}
-use Rattle.words.specs.Writes.{Write, writing, idsIn}
+use Rattle.words.specs.Writes.{writing, idsIn}
 use Rattle.words.specs.Commands.{expansion}
 use Rattle.registers.specs.State.{State, st}
 use Rattle.registers.specs.Applied.{apply, applyAll}

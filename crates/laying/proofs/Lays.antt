@@ -1,13 +1,13 @@
 -- The words of a command from the three buffers, and one command after another to the whole list. Assumes nothing.
 use mathlib.Core.Path.{_≡_, refl, sym, ap, _∙_}
 use mathlib.Core.Bool.{Bool, true, false}
-use mathlib.Core.List.{List, _∷_, _++_, append-assoc}
+use mathlib.Core.List.{List, _∷_, _++_}
 use Prim.Native.Nat.{ℕ, zero, suc, _+_, _-_, _%_, _≤_, _<_}
 use native.Mathlib.Decide.{decLt}
 use native.Mathlib.Omega.{arith}
 use lib.Dec.{eqb}
 use lib.ListN.{length, getD, take, drop, set, length-append, length-drop}
-use lib.Seq.{length-take-le, take-all, take-at, drop-at, take-add, drop-drop, getD-drop, paste, paste-zero, drop-paste}
+use lib.Seq.{take-all, drop-drop, getD-drop, paste, paste-zero}
 use borrow.Author.Tests.{lt-ltb, le-ltb, eqb-true, eqb-false}
 use Rattle.numbers.specs.Pick.{pick}
 use Rattle.numbers.proofs.Copy.{next-word, copy-more}

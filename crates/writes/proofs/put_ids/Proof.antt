@@ -1,8 +1,8 @@
 -- The first m ids stand from place k on, and the next one is at hand. Assumes nothing.
-use mathlib.Core.Path.{_≡_, refl, sym, ap, _∙_}
+use mathlib.Core.Path.{_≡_, refl, ap, _∙_}
 use Prim.Native.Nat.{ℕ, _+_, _-_, _≤_, _<_}
 use native.Mathlib.Omega.{arith}
-use lib.ListN.{length, getD, set, length-set}
+use lib.ListN.{length, getD, length-set}
 use lib.Seq.{paste, paste-zero}
 use borrow.Author.Needs.{needs}
 use Rattle.words.specs.Header.{countOf}
