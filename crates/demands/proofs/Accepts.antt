@@ -30,7 +30,8 @@ clash : {b : Bool} → b ≡ true → b ≡ false → ⊥
 clash t f = false≢true (sym f ∙ t)
 
 -- A SINGLE WRITE that is allowed, under a mask of at most 15, is done
-not-refused : (s : State) (w : Write) (n p : ℕ) → sized s ≡ true → w .mask ≤ 15 → allowed (w .id) (w .mask) ≡ true → WriteRefused s w n p → ⊥
+not-refused : (s : State) (w : Write) (n p : ℕ) → sized s ≡ true → w .mask ≤ 15 → allowed (w .id) (w .mask) ≡ true
+    → WriteRefused s w n p → ⊥
 not-refused s w n p z m a r =
     let no-fault : faultOf (w .id) (w .mask) ≡ 0 =
     eqb-true (faultOf (w .id) (w .mask)) 0 (sym (allowed-fault (w .id) (w .mask)) ∙ a) in

@@ -111,7 +111,8 @@ pub read-call : {s t : State} {l : List ℕ} {a : ListVerdict} → ReadCall s l 
 read-call c = rw (← c .state, ← c .list, ← c .after) (c .promise)
 
 pub writes-call : {l is ms vs is′ ms′ vs′ : List ℕ} {a : ListVerdict} → WritesCall l is ms vs a is′ ms′ vs′
-    → (read-told a ≡ writesAnswer l is ms vs) × (is′ ≡ writesIds l is ms vs) × (ms′ ≡ writesMasks l is ms vs) × (vs′ ≡ writesValues l is ms vs)
+    → (read-told a ≡ writesAnswer l is ms vs) × (is′ ≡ writesIds l is ms vs) × (ms′ ≡ writesMasks l is ms vs)
+    × (vs′ ≡ writesValues l is ms vs)
 writes-call c =
     let p = rw (c .list, c .ids, c .masks, c .values, c .ids-after, c .masks-after, c .values-after) at (c .promise) in
     (p .0, p .1 .0, p .1 .1 .0, p .1 .1 .1)

@@ -52,7 +52,8 @@ module _ (number need room : ℕ) where
   room-refused r n e = by-lack number need room r n (leb need room) refl e
 
 -- A ROW whose first words stand at the space's start: the part that comes next in it, put behind them, makes so many more stand
-module _ (row part rest old : List ℕ) (at n : ℕ) (inside : at ≤ length row) (next : drop at row ≡ part ++ rest) (long : length part ≡ n) where
+module _ (row part rest old : List ℕ) (at n : ℕ)
+    (inside : at ≤ length row) (next : drop at row ≡ part ++ rest) (long : length part ≡ n) where
   grown : take (at + n) row ≡ take at row ++ part
   grown = take-add at n row ∙ rw (next, take-at part rest n long)
 

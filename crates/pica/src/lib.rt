@@ -83,9 +83,15 @@ pub extern "C" fn pica_writes(
     values: &mut [u32],
 ) -> u64
     ensures answer { λ r. ⌜ r ≡ answer (writesAnswer (now (list .entry)) (now (ids .entry)) (now (masks .entry)) (now (values .entry))) ⌝ }
-    ensures ids { λ _. ⌜ now (ids .exit) ≡ writesIds (now (list .entry)) (now (ids .entry)) (now (masks .entry)) (now (values .entry)) ⌝ }
-    ensures masks { λ _. ⌜ now (masks .exit) ≡ writesMasks (now (list .entry)) (now (ids .entry)) (now (masks .entry)) (now (values .entry)) ⌝ }
-    ensures values { λ _. ⌜ now (values .exit) ≡ writesValues (now (list .entry)) (now (ids .entry)) (now (masks .entry)) (now (values .entry)) ⌝ }
+    ensures ids { λ _. ⌜
+        now (ids .exit) ≡ writesIds (now (list .entry)) (now (ids .entry)) (now (masks .entry)) (now (values .entry))
+        ⌝ }
+    ensures masks { λ _. ⌜
+        now (masks .exit) ≡ writesMasks (now (list .entry)) (now (ids .entry)) (now (masks .entry)) (now (values .entry))
+        ⌝ }
+    ensures values { λ _. ⌜
+        now (values .exit) ≡ writesValues (now (list .entry)) (now (ids .entry)) (now (masks .entry)) (now (values .entry))
+        ⌝ }
 {
     match writes::writes_of(list, ids, masks, values) {
         ListVerdict::Accepted(count) => told(0, count),

@@ -30,7 +30,8 @@ run l at (suc n) k i =
 abbrev pub expand : List ℕ → ℕ → List Write
 expand l at = run l at (countOf (headerAt l at) + 1) 0 (idOf (headerAt l at))
 
--- the places of the first words of the commands from `at` on, one after another to the list's end, the last perhaps lacking words; at most n commands
+-- the places of the first words of the commands from `at` on, one after another to the list's end, the last perhaps lacking words; at
+-- most n commands
 unfoldable pub places : ℕ → List ℕ → ℕ → List ℕ
 places zero l at = []
 places (suc n) l at =

@@ -50,7 +50,8 @@ module _ (l is ms vs : List ℕ) where
         no-room k = kept 22 n (by-room (refused 22 n) (λ e. room-short 22 (length (expansion l)) (length is) n e k))
 
         pub room : n ≤ length is → (is′ ms′ vs′ : List ℕ)
-            → (is′ ≡ idsIn (expansion l) ++ drop (length (expansion l)) is) → (ms′ ≡ masksIn (expansion l) ++ drop (length (expansion l)) ms)
+            → (is′ ≡ idsIn (expansion l) ++ drop (length (expansion l)) is)
+            → (ms′ ≡ masksIn (expansion l) ++ drop (length (expansion l)) ms)
             → (vs′ ≡ valuesIn (expansion l) ++ drop (length (expansion l)) vs) → Listing l is ms vs (answered n) is′ ms′ vs′
         room k is′ ms′ vs′ a b c =
             let e = by-room (answered n) (λ e. room-enough 22 (length (expansion l)) (length is) n e k) in

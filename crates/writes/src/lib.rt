@@ -200,9 +200,15 @@ pub fn writes_of(
     values: &mut [u32],
 ) -> ListVerdict
     ensures answer { λ r. ⌜ told r ≡ writesAnswer (now (list .entry)) (now (ids .entry)) (now (masks .entry)) (now (values .entry)) ⌝ }
-    ensures ids { λ _. ⌜ now (ids .exit) ≡ writesIds (now (list .entry)) (now (ids .entry)) (now (masks .entry)) (now (values .entry)) ⌝ }
-    ensures masks { λ _. ⌜ now (masks .exit) ≡ writesMasks (now (list .entry)) (now (ids .entry)) (now (masks .entry)) (now (values .entry)) ⌝ }
-    ensures values { λ _. ⌜ now (values .exit) ≡ writesValues (now (list .entry)) (now (ids .entry)) (now (masks .entry)) (now (values .entry)) ⌝ }
+    ensures ids { λ _. ⌜
+        now (ids .exit) ≡ writesIds (now (list .entry)) (now (ids .entry)) (now (masks .entry)) (now (values .entry))
+        ⌝ }
+    ensures masks { λ _. ⌜
+        now (masks .exit) ≡ writesMasks (now (list .entry)) (now (ids .entry)) (now (masks .entry)) (now (values .entry))
+        ⌝ }
+    ensures values { λ _. ⌜
+        now (values .exit) ≡ writesValues (now (list .entry)) (now (ids .entry)) (now (masks .entry)) (now (values .entry))
+        ⌝ }
 {
     let room = ids.len();
     if !((room == masks.len()) & (room == values.len())) {

@@ -40,9 +40,17 @@ add-n c = search needs
 
 loop-holds : tie.Need-loop-holds Inv-loop μ-loop
 loop-holds c =
-    let a = c .before .before .before .before .before .args in
-    let p = c .before .parts .ensures in
-    (omega arith, omega (arith, p .0), λ t. p .0 ∙ id-first (a .list .now) (a .at), refl, paste-zero (a .ids .now) (a .k) (idsIn (expand (a .list .now) (a .at))))
+    let at-parts = c .before in
+    let at-start = at-parts .before .before .before .before in
+    let a = at-start .args in
+    let p = at-parts .parts .ensures in (
+      omega arith,
+      omega (arith, p .0),
+      λ t. p .0 ∙ id-first (a .list .now) (a .at),
+      refl,
+      paste-zero (a .ids .now) (a .k) (idsIn (expand
+          (a .list .now) (a .at))),
+    )
 
 add-ids : tie.Need-add-ids Inv-loop μ-loop
 add-ids c = search needs
@@ -52,8 +60,10 @@ mul-ids c = search needs
 
 slice-write-ids : tie.Need-slice-write-ids Inv-loop μ-loop
 slice-write-ids c =
-    let b = c .before .before .before .before .before .before .before in
-    omega (arith, b .pre .1, c .before .loop .inv .3, c .loop-test .taken, c .before .before .before .parts .ensures .2)
+    let at-loop = c .before in
+    let at-parts = at-loop .before .before in
+    let at-start = at-parts .before .before .before .before in
+    omega (arith, at-start .pre .1, at-loop .loop .inv .3, c .loop-test .taken, at-parts .parts .ensures .2)
 
 add-next : tie.Need-add-next Inv-loop μ-loop
 add-next c = search needs
@@ -66,31 +76,38 @@ loop-less c = search needs
 
 loop-again : tie.Need-loop-again Inv-loop μ-loop
 loop-again c =
-    let b = c .before .before .before .before .before .before .before in
-    let a = b .args in
+    let at-loop = c .before in
+    let at-parts = at-loop .before .before in
+    let at-start = at-parts .before .before .before .before in
+    let a = at-start .args in
     let l = a .list .now in
-    let o = c .before .loop in
-    let p = c .before .before .before .parts .ensures in
+    let o = at-loop .loop in
+    let p = at-parts .parts .ensures in
     let t = c .loop-test .taken in
     let i = o .inv .2 t in
-    let step = c .before .before .before .parts .result .step in (
+    let step = at-parts .parts .result .step in (
       omega arith,
       omega (arith, p .3, o .inv .1),
-      (λ x. ap (λ (y : ℕ). o .next + y) (p .3) ∙ id-next l (a .at) (o .m) (o .next) (omega (arith, x, p .2)) i),
+      (λ x. ap (λ (y : ℕ). o .next + y) (p .3) ∙ id-next l (a .at) (o .m) (o .next) (omega
+          (arith, x, p .2)) i),
       length-set (o .ids) _ _ ∙ o .inv .3,
-      row-next l (a .at) (λ (w : Write). w .id) (a .ids .now) (a .k) (b .pre .1) (o .ids) (o .m) _ _ _ refl refl (omega (arith, t, p .2)) i (o .inv .4),
+      row-next l (a .at) (λ (w : Write). w .id) (a .ids .now) (a .k)
+          (at-start .pre .1) (o .ids) (o .m) _ _ _ refl refl (omega (arith, t, p .2)) i (o .inv .4),
     )
 
 same-length : tie.Need-same-length Inv-loop μ-loop
 same-length c =
-    c .before .loop .inv .3
+    let at-loop = c .before in
+    at-loop .loop .inv .3
 
 returns : tie.Need-returns Inv-loop μ-loop
 returns c =
-    let b = c .before .before .before .before .before .before .before in
-    let a = b .args in
-    let o = c .before .loop in
-    let p = c .before .before .before .parts .ensures in
+    let at-loop = c .before in
+    let at-parts = at-loop .before .before in
+    let at-start = at-parts .before .before .before .before in
+    let a = at-start .args in
+    let o = at-loop .loop in
+    let p = at-parts .parts .ensures in
     let z : o .m ≡ countOf (headerAt (a .list .now) (a .at)) + 1 = omega (arith, o .inv .0, c .loop-test .left, p .2) in
     rw z at (o .inv .4)
 

@@ -22,9 +22,15 @@ abbrev μ-loop : tie.MeasureT-loop
 
 loop-holds : tie.Need-loop-holds Inv-loop μ-loop
 loop-holds c =
-    let b = c .before .before .before .before in
-    let a = b .args in
-    (sym (formed-of (a .list .now)) ∙ b .pre .0, refl, refl, refl, stands-none (a .list .now) (a .ids .now) (a .masks .now) (a .values .now))
+    let at-start = c .before .before .before .before in
+    let a = at-start .args in (
+      sym (formed-of (a .list .now)) ∙ at-start .pre .0,
+      refl,
+      refl,
+      refl,
+      stands-none (a .list .now) (a .ids .now) (a .masks .now)
+          (a .values .now),
+    )
 
 add-parts : tie.Need-add-parts Inv-loop μ-loop
 add-parts c = search needs
@@ -34,9 +40,11 @@ mul-parts c = search needs
 
 shared-slice-read-parts : tie.Need-shared-slice-read-parts Inv-loop μ-loop
 shared-slice-read-parts c =
-    let b = c .before .before .before .before .before .before .before in
-    let o = c .before .before .loop in
-    omega (arith, full-next (b .args .list .now) (o .at) (c .before .loop-test .taken) (o .inv .0) .0)
+    let at-loop-test = c .before in
+    let at-loop = at-loop-test .before in
+    let at-start = at-loop .before .before .before .before .before in
+    let o = at-loop .loop in
+    omega (arith, full-next (at-start .args .list .now) (o .at) (at-loop-test .loop-test .taken) (o .inv .0) .0)
 
 parts-requires : tie.Need-parts-requires Inv-loop μ-loop
 parts-requires c κs = search needs
@@ -49,25 +57,37 @@ words-taken-requires c κs = search needs
 
 put-command-requires : tie.Need-put-command-requires Inv-loop μ-loop
 put-command-requires c κs =
-    let b = c .before .before .before .before .before .before .before .before .before .before .before .before .before in
-    let a = b .args in
-    let o = c .before .before .before .before .before .before .before .before .loop in
-    let t = c .before .before .before .before .before .before .before .loop-test .taken in
-    let w = next-within (a .list .now) (a .ids .now) (a .masks .now) (a .values .now) (o .at) (o .k) _ _ _ (o .inv .4) t in
-    (full-next (a .list .now) (o .at) t (o .inv .0) .0, (omega (arith, w, b .pre .1 .0, o .inv .1), omega (arith, b .pre .1 .1, o .inv .1, o .inv .2), omega (arith, b .pre .1 .2, o .inv .1, o .inv .3)))
+    let at-loop-test = c .before .before .before .before .before .before .before in
+    let at-loop = at-loop-test .before in
+    let at-start = at-loop .before .before .before .before .before in
+    let a = at-start .args in
+    let o = at-loop .loop in
+    let t = at-loop-test .loop-test .taken in
+    let w = next-within (a .list .now) (a .ids .now) (a .masks .now) (a .values .now) (o .at) (o .k) _ _ _ (o .inv .4) t in (
+      full-next (a .list .now) (o .at) t (o .inv .0) .0,
+      (
+        omega (arith, w, at-start .pre .1 .0, o .inv .1),
+        omega
+            (arith, at-start .pre .1 .1, o .inv .1, o .inv .2),
+        omega (arith, at-start .pre .1 .2, o .inv .1, o .inv .3),
+      ),
+    )
 
 add-k : tie.Need-add-k Inv-loop μ-loop
 add-k c = search needs
 
 add-k-2 : tie.Need-add-k-2 Inv-loop μ-loop
 add-k-2 c =
-    let b = c .before .before .before .before .before .before .before .before .before .before .before .before .before .before .before .before .before .before .before .before in
-    let a = b .args in
-    let o = c .before .before .before .before .before .before .before .before .before .before .before .before .before .before .before .loop in
-    let t = c .before .before .before .before .before .before .before .before .before .before .before .before .before .before .loop-test .taken in
-    let p = c .before .before .before .before .before .before .before .before .before .before .before .before .parts .ensures in
+    let at-parts = c .before .before .before .before .before .before .before .before .before .before .before .before in
+    let at-loop-test = at-parts .before .before in
+    let at-loop = at-loop-test .before in
+    let at-start = at-loop .before .before .before .before .before in
+    let a = at-start .args in
+    let o = at-loop .loop in
+    let t = at-loop-test .loop-test .taken in
+    let p = at-parts .parts .ensures in
     let w = next-within (a .list .now) (a .ids .now) (a .masks .now) (a .values .now) (o .at) (o .k) _ _ _ (o .inv .4) t in
-    omega (arith, p .2, w, b .pre .1 .0, b .good)
+    omega (arith, p .2, w, at-start .pre .1 .0, at-start .good)
 
 add-at : tie.Need-add-at Inv-loop μ-loop
 add-at c = search needs
@@ -77,36 +97,47 @@ loop-less c = search needs
 
 loop-again : tie.Need-loop-again Inv-loop μ-loop
 loop-again c =
-    let b = c .before .before .before .before .before .before .before .before .before .before .before .before .before .before .before .before .before .before .before .before in
-    let a = b .args in
+    let at-put-command = c .before .before .before .before .before .before in
+    let at-words-taken = at-put-command .before .before .before .before in
+    let at-parts = at-words-taken .before .before in
+    let at-loop-test = at-parts .before .before in
+    let at-loop = at-loop-test .before in
+    let at-start = at-loop .before .before .before .before .before in
+    let a = at-start .args in
     let l = a .list .now in
-    let o = c .before .before .before .before .before .before .before .before .before .before .before .before .before .before .before .loop in
-    let t = c .before .before .before .before .before .before .before .before .before .before .before .before .before .before .loop-test .taken in
-    let p = c .before .before .before .before .before .before .before .before .before .before .before .before .parts .ensures in
-    let w = c .before .before .before .before .before .before .before .before .before .before .words-taken .ensures in
-    let q = c .before .before .before .before .before .before .put-command in
+    let o = at-loop .loop in
+    let t = at-loop-test .loop-test .taken in
+    let p = at-parts .parts .ensures in
+    let w = at-words-taken .words-taken .ensures in
+    let q = at-put-command .put-command in
     let n = full-next l (o .at) t (o .inv .0) in
-    let s = stands-next l (a .ids .now) (a .masks .now) (a .values .now) (o .at) (o .k) _ _ _ (o .inv .4) t _ _ _ (q .ensures .0) (q .ensures .1 .0) (q .ensures .1 .1) in
+    let s = stands-next l (a .ids .now) (a .masks .now) (a .values .now) (o .at) (o .k) _ _ _ (o .inv .4) t _ _ _ (q .ensures .0)
+    (q .ensures .1 .0) (q .ensures .1 .1) in
     (rw (w, p .2) (n .1), omega (arith, o .inv .1, q .kept), omega arith, omega arith, rw (w, p .2) s)
 
 same-length : tie.Need-same-length Inv-loop μ-loop
 same-length c =
-    c .before .loop .inv .1
+    let at-loop = c .before in
+    at-loop .loop .inv .1
 
 same-length-2 : tie.Need-same-length-2 Inv-loop μ-loop
 same-length-2 c =
-    c .before .loop .inv .2
+    let at-loop = c .before in
+    at-loop .loop .inv .2
 
 same-length-3 : tie.Need-same-length-3 Inv-loop μ-loop
 same-length-3 c =
-    c .before .loop .inv .3
+    let at-loop = c .before in
+    at-loop .loop .inv .3
 
 returns : tie.Need-returns Inv-loop μ-loop
 returns c =
-    let b = c .before .before .before .before .before .before in
-    let a = b .args in
-    let o = c .before .loop in
-    let s = stands-all (a .list .now) (a .ids .now) (a .masks .now) (a .values .now) (o .at) (o .k) _ _ _ (o .inv .4) (c .loop-test .left) in
+    let at-loop = c .before in
+    let at-start = at-loop .before .before .before .before .before in
+    let a = at-start .args in
+    let o = at-loop .loop in
+    let s = stands-all (a .list .now) (a .ids .now) (a .masks .now) (a .values .now) (o .at) (o .k) _ _ _ (o .inv .4)
+    (c .loop-test .left) in
     (s .0, (s .1, s .2))
 
 pub put-list-spec : {M : Type 1} → statement M

@@ -39,7 +39,8 @@ add-n c = search needs
 
 loop-holds : tie.Need-loop-holds Inv-loop μ-loop
 loop-holds c =
-    let a = c .before .before .before .before .before .args in
+    let at-start = c .before .before .before .before .before in
+    let a = at-start .args in
     (omega arith, refl, paste-zero (a .masks .now) (a .k) (masksIn (expand (a .list .now) (a .at))))
 
 add-masks : tie.Need-add-masks Inv-loop μ-loop
@@ -50,8 +51,10 @@ mul-masks c = search needs
 
 slice-write-masks : tie.Need-slice-write-masks Inv-loop μ-loop
 slice-write-masks c =
-    let b = c .before .before .before .before .before .before .before in
-    omega (arith, b .pre .1, c .before .loop .inv .1, c .loop-test .taken, c .before .before .before .parts .ensures .2)
+    let at-loop = c .before in
+    let at-parts = at-loop .before .before in
+    let at-start = at-parts .before .before .before .before in
+    omega (arith, at-start .pre .1, at-loop .loop .inv .1, c .loop-test .taken, at-parts .parts .ensures .2)
 
 add-j : tie.Need-add-j Inv-loop μ-loop
 add-j c = search needs
@@ -61,28 +64,34 @@ loop-less c = search needs
 
 loop-again : tie.Need-loop-again Inv-loop μ-loop
 loop-again c =
-    let b = c .before .before .before .before .before .before .before in
-    let a = b .args in
+    let at-loop = c .before in
+    let at-parts = at-loop .before .before in
+    let at-start = at-parts .before .before .before .before in
+    let a = at-start .args in
     let l = a .list .now in
-    let o = c .before .loop in
-    let p = c .before .before .before .parts .ensures in
+    let o = at-loop .loop in
+    let p = at-parts .parts .ensures in
     let t = c .loop-test .taken in
     let q : o .j ≤ countOf (headerAt l (a .at)) = omega (arith, t, p .2) in (
       omega arith,
       length-set (o .masks) _ _ ∙ o .inv .1,
-      row-next l (a .at) (λ (w : Write). w .mask) (a .masks .now) (a .k) (b .pre .1) (o .masks) (o .j) _ _ _ refl refl q (p .1 ∙ mask-at l (a .at) (o .j) q) (o .inv .2),
+      row-next l (a .at) (λ (w : Write). w .mask) (a .masks .now) (a .k)
+          (at-start .pre .1) (o .masks) (o .j) _ _ _ refl refl q (p .1 ∙ mask-at l (a .at) (o .j) q) (o .inv .2),
     )
 
 same-length : tie.Need-same-length Inv-loop μ-loop
 same-length c =
-    c .before .loop .inv .1
+    let at-loop = c .before in
+    at-loop .loop .inv .1
 
 returns : tie.Need-returns Inv-loop μ-loop
 returns c =
-    let b = c .before .before .before .before .before .before .before in
-    let a = b .args in
-    let o = c .before .loop in
-    let p = c .before .before .before .parts .ensures in
+    let at-loop = c .before in
+    let at-parts = at-loop .before .before in
+    let at-start = at-parts .before .before .before .before in
+    let a = at-start .args in
+    let o = at-loop .loop in
+    let p = at-parts .parts .ensures in
     let z : o .j ≡ countOf (headerAt (a .list .now) (a .at)) + 1 = omega (arith, o .inv .0, c .loop-test .left, p .2) in
     rw z at (o .inv .2)
 

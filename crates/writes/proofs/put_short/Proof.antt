@@ -1,5 +1,6 @@
 -- The command's first writes stand from place k on, one more of them after each turn. Assumes nothing.
 use mathlib.Core.Path.{_≡_, refl, ap, _∙_}
+use mathlib.Core.List.{List}
 use Prim.Native.Nat.{ℕ, _+_, _-_, _≤_, _<_}
 use native.Mathlib.Omega.{arith}
 use lib.ListN.{length, getD, set, length-set}
@@ -63,43 +64,47 @@ slice-write-values c = search needs
 abbrev start : tie.After-shared-slice-known3 Inv-loop μ-loop → tie.Start Inv-loop μ-loop
 start c = c .before .before .before .before .before .before .before .before
 
--- the first write stands before the loop
+-- the buffers with the first write, which stands there before the loop
+abbrev first-stands : tie.After-shared-slice-known3 Inv-loop μ-loop → List ℕ × List ℕ × List ℕ
+first-stands c =
+    let a = start c .args in
+    let p = c .before .before .parts .result in
+    (set (a .ids .now) (a .k) (p .id), set (a .masks .now) (a .k) (p .mask), set (a .values .now) (a .k) (getD (a .list .now) (a .at) 0))
+
 first : (c : tie.After-shared-slice-known3 Inv-loop μ-loop)
     → let a = start c .args in
-    let p = c .before .before .parts .result in
-    Put (a .list .now) (a .at) (a .k) 1 (a .ids .now) (a .masks .now) (a .values .now)
-    (set (a .ids .now) (a .k) (p .id)) (set (a .masks .now) (a .k) (p .mask)) (set (a .values .now) (a .k) (getD (a .list .now) (a .at) 0))
+    let s = first-stands c in
+    Put (a .list .now) (a .at) (a .k) 1 (a .ids .now) (a .masks .now) (a .values .now) (s .0) (s .1) (s .2)
 first c =
     let b = start c in
     let a = b .args in
     let l = a .list .now in
     let p = c .before .before .parts .ensures in
-    put-next l (a .at) (a .k) (a .ids .now) (a .masks .now) (a .values .now) (b .pre .1 .0) (b .pre .1 .1, b .pre .1 .2)
-    (a .ids .now) (a .masks .now) (a .values .now) 0 (a .k) 1 _ _ _ (omega arith) (omega arith) (omega arith)
-    (p .0 ∙ id-first l (a .at)) (p .1) refl (put-none l (a .at) (a .k) (a .ids .now) (a .masks .now) (a .values .now))
+    put-next l (a .at) (a .k) (a .ids .now) (a .masks .now) (a .values .now) (b .pre .1 .0) (b .pre .1 .1, b .pre .1 .2) (a .ids .now)
+    (a .masks .now) (a .values .now) 0 (a .k) 1 _ _ _ (omega arith) (omega arith) (omega arith) (p .0 ∙ id-first l (a .at)) (p .1) refl
+    (put-none l (a .at) (a .k) (a .ids .now) (a .masks .now) (a .values .now))
 
 long : (c : tie.After-shared-slice-known3 Inv-loop μ-loop)
     → let a = start c .args in
-    let p = c .before .before .parts .result in
-    (length (set (a .ids .now) (a .k) (p .id)) ≡ length (a .ids .now))
-    × (length (set (a .masks .now) (a .k) (p .mask)) ≡ length (a .masks .now))
-    × (length (set (a .values .now) (a .k) (getD (a .list .now) (a .at) 0)) ≡ length (a .values .now))
+    let s = first-stands c in
+    (length (s .0) ≡ length (a .ids .now)) × (length (s .1) ≡ length (a .masks .now)) × (length (s .2) ≡ length (a .values .now))
 long c = let a = start c .args in (length-set (a .ids .now) _ _, length-set (a .masks .now) _ _, length-set (a .values .now) _ _)
 
 loop-holds : tie.Need-loop-holds Inv-loop μ-loop
 loop-holds c =
+    let at-parts = c .before .before in
     let b = start c in
     let a = b .args in
     let l = a .list .now in
-    let p = c .before .before .parts .ensures in (
+    let p = at-parts .parts .ensures in (
       omega arith,
       p .0 ∙ id-first l (a .at),
       omega (arith, p .0),
       refl,
       refl,
       refl,
-      put-back l (a .at) (a .k) (a .ids .now) (a .masks .now) (a .values .now) (b .pre .1 .0) (b .pre .1 .1, b .pre .1 .2)
-          _ _ _ (first c) 1 (omega arith) (omega arith) _ _ _ (first c),
+      put-back l (a .at) (a .k) (a .ids .now) (a .masks .now) (a .values .now) (b .pre .1 .0) (b .pre .1 .1, b .pre .1 .2) _ _ _ (first c) 1
+          (omega arith) (omega arith) _ _ _ (first c),
     )
 
 add-id : tie.Need-add-id Inv-loop μ-loop
@@ -116,7 +121,16 @@ mul-ids-2 c = search needs
 
 slice-write-ids-2 : tie.Need-slice-write-ids-2 Inv-loop μ-loop
 slice-write-ids-2 c =
-    omega (arith, (c .before .before .before .before .before .before .before .before .before .before) .pre .1 .0, (c .before) .loop .inv .3, (c) .loop-test .taken, length-set ((c .before .before .before .before .before .before .before .before .before .before) .args .ids .now) ((c .before .before .before .before .before .before .before .before .before .before) .args .k) ((c .before .before .before .before) .parts .result .id))
+    let at-loop = c .before in
+    let at-parts = at-loop .before .before .before in
+    let at-start = at-parts .before .before .before .before .before .before in
+    omega (
+      arith,
+      at-start .pre .1 .0,
+      at-loop .loop .inv .3,
+      c .loop-test .taken,
+      length-set (at-start .args .ids .now) (at-start .args .k) (at-parts .parts .result .id),
+    )
 
 add-masks : tie.Need-add-masks Inv-loop μ-loop
 add-masks c = search needs
@@ -126,7 +140,17 @@ mul-masks-2 c = search needs
 
 slice-write-masks-2 : tie.Need-slice-write-masks-2 Inv-loop μ-loop
 slice-write-masks-2 c =
-    omega (arith, (c .before .before .before .before .before .before .before .before .before .before) .pre .1 .0, (c .before .before .before .before .before .before .before .before .before .before) .pre .1 .1, (c .before) .loop .inv .4, (c) .loop-test .taken, length-set ((c .before .before .before .before .before .before .before .before .before .before) .args .masks .now) ((c .before .before .before .before .before .before .before .before .before .before) .args .k) ((c .before .before .before .before) .parts .result .mask))
+    let at-loop = c .before in
+    let at-parts = at-loop .before .before .before in
+    let at-start = at-parts .before .before .before .before .before .before in
+    omega (
+      arith,
+      at-start .pre .1 .0,
+      at-start .pre .1 .1,
+      at-loop .loop .inv .4,
+      c .loop-test .taken,
+      length-set (at-start .args .masks .now) (at-start .args .k) (at-parts .parts .result .mask),
+    )
 
 add-values : tie.Need-add-values Inv-loop μ-loop
 add-values c = search needs
@@ -148,58 +172,83 @@ mul-values-4 c = search needs
 
 slice-write-values-2 : tie.Need-slice-write-values-2 Inv-loop μ-loop
 slice-write-values-2 c =
-    omega (arith, (c .before .before .before .before .before .before .before .before .before .before .before) .pre .1 .0, (c .before .before .before .before .before .before .before .before .before .before .before) .pre .1 .2, (c .before .before) .loop .inv .5, (c .before) .loop-test .taken, length-set ((c .before .before .before .before .before .before .before .before .before .before .before) .args .values .now) ((c .before .before .before .before .before .before .before .before .before .before .before) .args .k) (getD ((c .before .before .before .before .before .before .before .before .before .before .before) .args .list .now) ((c .before .before .before .before .before .before .before .before .before .before .before) .args .at) 0))
+    let at-loop-test = c .before in
+    let at-loop = at-loop-test .before in
+    let at-start = at-loop .before .before .before .before .before .before .before .before .before in
+    omega (
+      arith,
+      at-start .pre .1 .0,
+      at-start .pre .1 .2,
+      at-loop .loop .inv .5,
+      at-loop-test .loop-test .taken,
+      length-set (at-start .args .values .now) (at-start .args .k) (getD (at-start .args .list .now) (at-start .args .at) 0),
+    )
 
 loop-less : tie.Need-loop-less Inv-loop μ-loop
 loop-less c = search needs
 
 loop-again : tie.Need-loop-again Inv-loop μ-loop
 loop-again c =
-    let h = c .before .before .before in
-    let b = start h in
+    let at-loop-test = c .before in
+    let at-loop = at-loop-test .before in
+    let at-shared-slice-known3 = at-loop .before in
+    let at-parts = at-shared-slice-known3 .before .before in
+    let b = start at-shared-slice-known3 in
     let a = b .args in
     let l = a .list .now in
-    let p = c .before .before .before .before .before .parts .ensures in
-    let o = c .before .before .loop in
-    let t = c .before .loop-test .taken in
+    let p = at-parts .parts .ensures in
+    let o = at-loop .loop in
+    let t = at-loop-test .loop-test .taken in
     let q : o .m < countOf (headerAt l (a .at)) = omega (arith, t, p .2) in
     let next = id-next l (a .at) (o .m) (o .id) q (o .inv .1) in
-    let e : o .id + (c .before .before .before .before .before .parts .result .step) ≡ getD (idsIn (expand l (a .at))) (o .m + 1) 0 = ap (λ (x : ℕ). o .id + x) (p .3) ∙ next in
-    let n = long h in (
+    let e : o .id + at-parts .parts .result .step ≡ getD (idsIn (expand l (a .at))) (o .m + 1) 0 =
+    ap (λ (x : ℕ). o .id + x) (p .3) ∙ next in
+    let n = long at-shared-slice-known3 in
+    let s = first-stands at-shared-slice-known3 in
+    let room : a .k + (countOf (headerAt l (a .at)) + 1) ≤ length (s .0) = omega (arith, b .pre .1 .0, n .0) in
+    let level : (length (s .0) ≡ length (s .1)) × (length (s .0) ≡ length (s .2)) =
+    (omega (arith, b .pre .1 .1, n .0, n .1), omega (arith, b .pre .1 .2, n .0, n .2)) in (
       omega arith,
       e,
       omega (arith, p .3, o .inv .2),
       length-set (o .ids) _ _ ∙ o .inv .3,
       length-set (o .masks) _ _ ∙ o .inv .4,
       length-set (o .values) _ _ ∙ o .inv .5,
-      put-next l (a .at) (a .k) _ _ _ (omega (arith, b .pre .1 .0, n .0)) (omega (arith, b .pre .1 .1, n .0, n .1), omega (arith, b .pre .1 .2, n .0, n .2))
-          (o .ids) (o .masks) (o .values) (o .m + 1) _ _ _ _ _ refl refl (omega arith) e (p .1)
+      put-next l (a .at) (a .k) _ _ _ room level (o .ids) (o .masks) (o .values) (o .m + 1) _ _ _ _ _ refl refl (omega arith) e (p .1)
           (param-later l (a .at) (o .m + 1) _ (omega arith) refl) (o .inv .6),
     )
 
 same-length : tie.Need-same-length Inv-loop μ-loop
 same-length c =
-    (c .before) .loop .inv .3 ∙ length-set ((c .before .before .before .before .before .before .before .before .before .before) .args .ids .now) _ _
+    let at-loop = c .before in
+    let at-start = at-loop .before .before .before .before .before .before .before .before .before in
+    at-loop .loop .inv .3 ∙ length-set (at-start .args .ids .now) _ _
 
 same-length-2 : tie.Need-same-length-2 Inv-loop μ-loop
 same-length-2 c =
-    (c .before) .loop .inv .4 ∙ length-set ((c .before .before .before .before .before .before .before .before .before .before) .args .masks .now) _ _
+    let at-loop = c .before in
+    let at-start = at-loop .before .before .before .before .before .before .before .before .before in
+    at-loop .loop .inv .4 ∙ length-set (at-start .args .masks .now) _ _
 
 same-length-3 : tie.Need-same-length-3 Inv-loop μ-loop
 same-length-3 c =
-    (c .before) .loop .inv .5 ∙ length-set ((c .before .before .before .before .before .before .before .before .before .before) .args .values .now) _ _
+    let at-loop = c .before in
+    let at-start = at-loop .before .before .before .before .before .before .before .before .before in
+    at-loop .loop .inv .5 ∙ length-set (at-start .args .values .now) _ _
 
 returns : tie.Need-returns Inv-loop μ-loop
 returns c =
-    let h = c .before .before in
-    let b = start h in
+    let at-loop = c .before in
+    let at-shared-slice-known3 = at-loop .before in
+    let at-parts = at-shared-slice-known3 .before .before in
+    let b = start at-shared-slice-known3 in
     let a = b .args in
     let l = a .list .now in
-    let o = c .before .loop in
-    let p = c .before .before .before .before .parts .ensures in
+    let o = at-loop .loop in
+    let p = at-parts .parts .ensures in
     let z : o .m + 1 ≡ countOf (headerAt l (a .at)) + 1 = omega (arith, o .inv .0, c .loop-test .left, p .2) in
-    let P = put-over l (a .at) (a .k) (a .ids .now) (a .masks .now) (a .values .now) (b .pre .1 .0) (b .pre .1 .1, b .pre .1 .2)
-    _ _ _ (first h) (o .m + 1) (omega arith) (omega arith) (o .ids) (o .masks) (o .values) (o .inv .6) in
+    let P = put-over l (a .at) (a .k) (a .ids .now) (a .masks .now) (a .values .now) (b .pre .1 .0) (b .pre .1 .1, b .pre .1 .2) _ _ _
+    (first at-shared-slice-known3) (o .m + 1) (omega arith) (omega arith) (o .ids) (o .masks) (o .values) (o .inv .6) in
     (rw z at (P .ids), (rw z at (P .masks), rw z at (P .values)))
 
 pub put-short-spec : {M : Type 1} → statement M

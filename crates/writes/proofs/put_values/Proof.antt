@@ -53,7 +53,8 @@ slice-write-values c = search needs
 -- the first value stands before the loop
 first : (c : tie.After-shared-slice-known3 Inv-loop μ-loop)
     → let a = c .before .before .before .before .before .before .args in
-    set (a .values .now) (a .k) (getD (a .list .now) (a .at) 0) ≡ paste (a .values .now) (a .k) (valuesIn (expand (a .list .now) (a .at))) 1
+    set (a .values .now) (a .k) (getD (a .list .now) (a .at) 0)
+    ≡ paste (a .values .now) (a .k) (valuesIn (expand (a .list .now) (a .at))) 1
 first c =
     let b = c .before .before .before .before .before .before in
     let a = b .args in
@@ -63,10 +64,15 @@ first c =
 
 loop-holds : tie.Need-loop-holds Inv-loop μ-loop
 loop-holds c =
-    let a = c .before .before .before .before .before .before .args in
-    let b = c .before .before .before .before .before .before in
-    let f = first c in
-    (omega arith, omega arith, refl, f ∙ sym (row-over (a .list .now) (a .at) (λ (w : Write). w .value) (a .values .now) (a .k) (b .pre .1) _ 1 f (omega arith) (omega arith)))
+    let at-start = c .before .before .before .before .before .before in
+    let a = at-start .args in
+    let f = first c in (
+      omega arith,
+      omega arith,
+      refl,
+      f ∙ sym (row-over (a .list .now) (a .at) (λ (w : Write). w .value) (a .values .now) (a .k)
+          (at-start .pre .1) _ 1 f (omega arith) (omega arith)),
+    )
 
 add-values : tie.Need-add-values Inv-loop μ-loop
 add-values c = search needs
@@ -88,9 +94,20 @@ mul-values-4 c = search needs
 
 slice-write-values-2 : tie.Need-slice-write-values-2 Inv-loop μ-loop
 slice-write-values-2 c =
-    let b = c .before .before .before .before .before .before .before .before .before in
-    let a = b .args in
-    omega (arith, b .pre .1, c .before .before .loop .inv .2, c .before .loop-test .taken, c .before .before .before .before .before .parts .ensures .2, length-set (a .values .now) (a .k) (getD (a .list .now) (a .at) 0))
+    let at-loop-test = c .before in
+    let at-loop = at-loop-test .before in
+    let at-parts = at-loop .before .before .before in
+    let at-start = at-parts .before .before .before .before in
+    let a = at-start .args in
+    omega (
+      arith,
+      at-start .pre .1,
+      at-loop .loop .inv .2,
+      at-loop-test .loop-test .taken,
+      at-parts .parts .ensures .2,
+      length-set
+          (a .values .now) (a .k) (getD (a .list .now) (a .at) 0),
+    )
 
 add-j : tie.Need-add-j Inv-loop μ-loop
 add-j c = search needs
@@ -100,35 +117,45 @@ loop-less c = search needs
 
 loop-again : tie.Need-loop-again Inv-loop μ-loop
 loop-again c =
-    let b = c .before .before .before .before .before .before .before .before .before in
-    let a = b .args in
+    let at-loop-test = c .before in
+    let at-loop = at-loop-test .before in
+    let at-parts = at-loop .before .before .before in
+    let at-start = at-parts .before .before .before .before in
+    let a = at-start .args in
     let l = a .list .now in
-    let o = c .before .before .loop in
-    let p = c .before .before .before .before .before .parts .ensures in
-    let t = c .before .loop-test .taken in
+    let o = at-loop .loop in
+    let p = at-parts .parts .ensures in
+    let t = at-loop-test .loop-test .taken in
     let n = length-set (a .values .now) (a .k) (getD l (a .at) 0) in
     let q : o .j ≤ countOf (headerAt l (a .at)) = omega (arith, t, p .2) in (
       omega arith,
       omega arith,
       length-set (o .values) _ _ ∙ o .inv .2,
-      row-next l (a .at) (λ (w : Write). w .value) (set (a .values .now) (a .k) (getD l (a .at) 0)) (a .k) (omega (arith, b .pre .1, n)) (o .values) (o .j) _ _ _ refl refl q
+      row-next l (a .at) (λ (w : Write). w .value) (set
+          (a .values .now) (a .k) (getD l (a .at) 0)) (a .k) (omega (arith, at-start .pre .1, n)) (o .values) (o .j) _ _ _ refl refl q
           (param-later l (a .at) (o .j) _ (omega (arith, o .inv .0)) refl ∙ value-at l (a .at) (o .j) q) (o .inv .3),
     )
 
 same-length : tie.Need-same-length Inv-loop μ-loop
 same-length c =
-    let a = c .before .before .before .before .before .before .before .before .args in
-    c .before .loop .inv .2 ∙ length-set (a .values .now) _ _
+    let at-loop = c .before in
+    let at-start = at-loop .before .before .before .before .before .before .before in
+    let a = at-start .args in
+    at-loop .loop .inv .2 ∙ length-set (a .values .now) _ _
 
 returns : tie.Need-returns Inv-loop μ-loop
 returns c =
-    let b = c .before .before .before .before .before .before .before .before in
-    let a = b .args in
+    let at-loop = c .before in
+    let at-shared-slice-known3 = at-loop .before in
+    let at-parts = at-shared-slice-known3 .before .before in
+    let at-start = at-parts .before .before .before .before in
+    let a = at-start .args in
     let l = a .list .now in
-    let o = c .before .loop in
-    let p = c .before .before .before .before .parts .ensures in
+    let o = at-loop .loop in
+    let p = at-parts .parts .ensures in
     let z : o .j ≡ countOf (headerAt l (a .at)) + 1 = omega (arith, o .inv .1, c .loop-test .left, p .2) in
-    let e = o .inv .3 ∙ row-over l (a .at) (λ (w : Write). w .value) (a .values .now) (a .k) (b .pre .1) _ (o .j) (first (c .before .before)) (o .inv .0) (omega arith) in
+    let e = o .inv .3 ∙ row-over l (a .at) (λ (w : Write). w .value) (a .values .now) (a .k) (at-start .pre .1) _ (o .j)
+    (first at-shared-slice-known3) (o .inv .0) (omega arith) in
     rw z at e
 
 pub put-values-spec : {M : Type 1} → statement M

@@ -14,14 +14,17 @@ use Rattle.writes.proofs.writes_of.Tie as tie
 
 returns : tie.Need-returns
 returns c =
-    let a = c .before .before .before .before .before .args in
+    let at-start = c .before .before .before .before .before in
+    let a = at-start .args in
     let r = lengths-differ (a .list .now) (a .ids .now) (a .masks .now) (a .values .now) (not-true _ (c .if1 .taken)) in
     (r .answer, (r .ids, (r .masks, r .values)))
 
 returns-2 : tie.Need-returns-2
 returns-2 c =
-    let a = c .before .before .before .before .before .before .args in
-    let t = not-false _ (c .before .if1 .left) in
+    let at-if1 = c .before in
+    let at-start = at-if1 .before .before .before .before .before in
+    let a = at-start .args in
+    let t = not-false _ (at-if1 .if1 .left) in
     let r = too-long (a .list .now) (a .ids .now) (a .masks .now) (a .values .now) t (c .if2 .taken) in
     (r .answer, (r .ids, (r .masks, r .values)))
 
@@ -36,27 +39,42 @@ enum-told c = search needs
 
 returns-3 : tie.Need-returns-3
 returns-3 c =
-    let a = c .before .before .before .before .before .before .before .before .before .args in
-    let t = not-false _ (c .before .before .before .before .if1 .left) in
-    let j = c .before .before .judge-list .ensures in
+    let at-judge-list = c .before .before in
+    let at-if2 = at-judge-list .before in
+    let at-if1 = at-if2 .before in
+    let at-start = at-if1 .before .before .before .before .before in
+    let a = at-start .args in
+    let t = not-false _ (at-if1 .if1 .left) in
+    let j = at-judge-list .judge-list .ensures in
     let v = sym j ∙ ap told (c .enum-told .given .1) in
-    let r = list-refused (a .list .now) (a .ids .now) (a .masks .now) (a .values .now) t (c .before .before .before .if2 .left) _ _ v in
+    let r = list-refused (a .list .now) (a .ids .now) (a .masks .now) (a .values .now) t (at-if2 .if2 .left) _ _ v in
     (j ∙ v ∙ r .answer, (r .ids, (r .masks, r .values)))
 
 returns-4 : tie.Need-returns-4
 returns-4 c =
-    let a = c .before .before .before .before .before .before .before .before .before .before .before .args in
-    let t = not-false _ (c .before .before .before .before .before .before .if1 .left) in
-    let v = sym (c .before .before .before .before .judge-list .ensures) ∙ ap told (c .before .before .verdict .given .1) in
-    let r = no-room (a .list .now) (a .ids .now) (a .masks .now) (a .values .now) t (c .before .before .before .before .before .if2 .left) _ v (c .if3 .taken) in
+    let at-verdict = c .before .before in
+    let at-judge-list = at-verdict .before .before in
+    let at-if2 = at-judge-list .before in
+    let at-if1 = at-if2 .before in
+    let at-start = at-if1 .before .before .before .before .before in
+    let a = at-start .args in
+    let t = not-false _ (at-if1 .if1 .left) in
+    let v = sym (at-judge-list .judge-list .ensures) ∙ ap told (at-verdict .verdict .given .1) in
+    let r = no-room (a .list .now) (a .ids .now) (a .masks .now) (a .values .now) t (at-if2 .if2 .left) _ v (c .if3 .taken) in
     (r .answer, (r .ids, (r .masks, r .values)))
 
 put-list-requires : tie.Need-put-list-requires
 put-list-requires c κs =
-    let a = c .before .before .before .before .before .before .before .before .before .before .before .before .before .before .args in
-    let t = and-true (eqb (length (a .ids .now)) (length (a .masks .now))) (eqb (length (a .ids .now)) (length (a .values .now))) (not-false _ (c .before .before .before .before .before .before .before .before .before .if1 .left)) in
-    let v = verdict-accepted (a .list .now) _ (sym (c .before .before .before .before .before .before .before .judge-list .ensures) ∙ ap told (c .before .before .before .before .before .verdict .given .1)) in
-    (v .0, (omega (arith, v .2, c .before .before .before .if3 .left), eqb-true _ _ (t .0), eqb-true _ _ (t .1)))
+    let at-if3 = c .before .before .before in
+    let at-verdict = at-if3 .before .before in
+    let at-judge-list = at-verdict .before .before in
+    let at-if1 = at-judge-list .before .before in
+    let at-start = at-if1 .before .before .before .before .before in
+    let a = at-start .args in
+    let t = and-true (eqb (length (a .ids .now)) (length (a .masks .now))) (eqb (length (a .ids .now)) (length (a .values .now)))
+    (not-false _ (at-if1 .if1 .left)) in
+    let v = verdict-accepted (a .list .now) _ (sym (at-judge-list .judge-list .ensures) ∙ ap told (at-verdict .verdict .given .1)) in
+    (v .0, (omega (arith, v .2, at-if3 .if3 .left), eqb-true _ _ (t .0), eqb-true _ _ (t .1)))
 
 same-length : tie.Need-same-length
 same-length c = search needs
@@ -69,11 +87,19 @@ same-length-3 c = search needs
 
 returns-5 : tie.Need-returns-5
 returns-5 c =
-    let a = c .before .before .before .before .before .before .before .before .before .before .before .before .before .before .before .before .before .before .before .before .before .args in
-    let t = not-false _ (c .before .before .before .before .before .before .before .before .before .before .before .before .before .before .before .before .if1 .left) in
-    let v = sym (c .before .before .before .before .before .before .before .before .before .before .before .before .before .before .judge-list .ensures) ∙ ap told (c .before .before .before .before .before .before .before .before .before .before .before .before .verdict .given .1) in
-    let p = c .before .before .before .before .before .before .put-list .ensures in
-    let r = room (a .list .now) (a .ids .now) (a .masks .now) (a .values .now) t (c .before .before .before .before .before .before .before .before .before .before .before .before .before .before .before .if2 .left) _ v (c .before .before .before .before .before .before .before .before .before .before .if3 .left) _ _ _ (p .0) (p .1 .0) (p .1 .1) in
+    let at-put-list = c .before .before .before .before .before .before in
+    let at-if3 = at-put-list .before .before .before .before in
+    let at-verdict = at-if3 .before .before in
+    let at-judge-list = at-verdict .before .before in
+    let at-if2 = at-judge-list .before in
+    let at-if1 = at-if2 .before in
+    let at-start = at-if1 .before .before .before .before .before in
+    let a = at-start .args in
+    let t = not-false _ (at-if1 .if1 .left) in
+    let v = sym (at-judge-list .judge-list .ensures) ∙ ap told (at-verdict .verdict .given .1) in
+    let p = at-put-list .put-list .ensures in
+    let r = room (a .list .now) (a .ids .now) (a .masks .now) (a .values .now) t (at-if2 .if2 .left) _ v (at-if3 .if3 .left) _ _ _ (p .0)
+    (p .1 .0) (p .1 .1) in
     (r .answer, (r .ids, (r .masks, r .values)))
 
 pub writes-of-spec : {M : Type 1} → statement M
