@@ -59,8 +59,8 @@ first c =
     let b = c .before .before .before .before .before .before in
     let a = b .args in
     let l = a .list .now in
-    row-next l (a .at) (λ (w : Write). w .value) (a .values .now) (a .k) (b .pre .1) (a .values .now) 0 (a .k) 1 _ (omega arith) (omega arith)
-    (omega arith) (value-at l (a .at) 0 (omega arith)) (paste-zero (a .values .now) (a .k) (valuesIn (expand l (a .at))))
+    row-next l (a .at) (λ (w : Write). w .value) (a .values .now) (a .k) (b .pre .1) (a .values .now) 0 (a .k) 1 _ (omega arith)
+    (omega arith) (omega arith) (value-at l (a .at) 0 (omega arith)) (paste-zero (a .values .now) (a .k) (valuesIn (expand l (a .at))))
 
 loop-holds : tie.Need-loop-holds Inv-loop μ-loop
 loop-holds c =
