@@ -1,8 +1,9 @@
 //! Files that the command writes: never over one that is there, unless it is told to, and never by halves.
 
 use std::ffi::OsStr;
-use std::fs::{self, File, OpenOptions};
+use std::fs::{self, File, Metadata, OpenOptions};
 use std::io::{self, ErrorKind, Write};
+use std::os::unix::ffi::OsStrExt;
 use std::os::unix::fs::FileTypeExt;
 use std::path::{Path, PathBuf};
 
@@ -28,6 +29,7 @@ impl Target {
                 "`{name}` is no file's name: give one to write to"
             )));
         }
+        let is_folder = path.as_bytes().ends_with(b"/");
         let path = fs::canonicalize(path).unwrap_or_else(|_| PathBuf::from(path));
         let mut target = Self {
             path,
@@ -35,15 +37,15 @@ impl Target {
             force,
             is_stream: false,
         };
-        match fs::metadata(&target.path) {
-            Ok(seen) if seen.is_dir() => {
-                return Err(target.stopped("is a folder: give a file's name"))
+        if let Some(seen) = target.seen() {
+            let kind = seen.file_type();
+            target.is_stream = kind.is_fifo() || kind.is_char_device();
+            if !target.is_stream && !kind.is_file() {
+                let what = if kind.is_dir() { "folder" } else { "device" };
+                return Err(target.stopped(&format!("is a {what}: give a file's name")));
             }
-            Ok(seen) => {
-                let kind = seen.file_type();
-                target.is_stream = kind.is_fifo() || kind.is_char_device();
-            }
-            Err(_) => {}
+        } else if is_folder {
+            return Err(target.stopped("is a folder's name: give a file's name"));
         }
         if !target.is_stream {
             target.refuse_what_is_there()?;
@@ -55,6 +57,11 @@ impl Target {
 
     pub fn is_same_as(&self, other: &Self) -> bool {
         self.path == other.path
+    }
+
+    /// What is there under its name.
+    pub fn seen(&self) -> Option<Metadata> {
+        fs::metadata(&self.path).ok()
     }
 
     /// Writes it whole, or leaves what was there.
@@ -83,6 +90,8 @@ impl Target {
         if !self.force {
             self.refuse_what_is_there()?;
             File::create_new(&self.path).map_err(|error| self.lost(&error))?;
+        } else if let Some(seen) = self.seen() {
+            self.keep_permissions(finished, &seen)?;
         }
         fs::rename(finished, &self.path).map_err(|error| {
             if !self.force {
@@ -90,6 +99,16 @@ impl Target {
             }
             self.lost(&error)
         })
+    }
+
+    /// Whoever may read what is overwritten may read what comes in its place, and nobody else. Not every file system knows the
+    /// difference, and where there is none nothing is asked of it.
+    fn keep_permissions(&self, finished: &Path, seen: &Metadata) -> Result<(), Failure> {
+        let new = fs::metadata(finished).map_err(|error| self.lost(&error))?;
+        if new.permissions() == seen.permissions() {
+            return Ok(());
+        }
+        fs::set_permissions(finished, seen.permissions()).map_err(|error| self.lost(&error))
     }
 
     fn refuse_what_is_there(&self) -> Result<(), Failure> {
@@ -119,11 +138,16 @@ impl Target {
 
     fn lost(&self, error: &io::Error) -> Failure {
         match error.kind() {
-            ErrorKind::NotFound => self.stopped("can't be written: there is no such folder"),
+            ErrorKind::NotFound => {
+                self.stopped("can't be written: there is no such folder; make it, or give another")
+            }
             ErrorKind::PermissionDenied => {
                 self.stopped("can't be written: no permission; give another folder")
             }
-            _ => self.stopped(&format!("can't be written: {}", plain(error))),
+            _ => self.stopped(&format!(
+                "can't be written: {}; give another name or folder",
+                plain(error)
+            )),
         }
     }
 

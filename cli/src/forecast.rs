@@ -1,14 +1,15 @@
 //! `pica forecast`: how short lists can be, and how long they take.
 
 use std::ffi::OsString;
-use std::io::Write;
+use std::fs;
+use std::io::{self, Write};
 
 use crate::figures::{Figures, Row, Totals};
 use crate::files::Target;
-use crate::input::{entries, Entry};
+use crate::input::{entries, shown, Entry};
 use crate::lists::{self, Problem};
 use crate::options::{parse, wrong, Given, Known};
-use crate::output::Output;
+use crate::output::{Output, Written};
 use crate::plot;
 use crate::progress::Progress;
 use crate::rate::Rate;
@@ -75,13 +76,17 @@ pub fn run(args: &[OsString], out: &mut Output) -> Outcome {
         )
     })?;
     let (csv, plot) = targets(&given)?;
-    let (rows, totals) = forecast_all(&entries(&given.paths), rate, out)?;
+    let written = written(&given, [&csv, &plot])?;
+    let has_files = csv.is_some() || plot.is_some();
+    let entries = entries(&given.paths, &written);
+    let (rows, totals, printed) = forecast_all(&entries, rate, has_files, out);
     if let Some(target) = csv {
         target.write(crate::figures::csv(&rows, rate).as_bytes())?;
     }
     if let Some(target) = plot {
         target.write(plot::picture(&rows, &totals, rate).as_bytes())?;
     }
+    printed?;
     Ok(status(&rows))
 }
 
@@ -103,39 +108,72 @@ fn targets(given: &Given) -> Result<(Option<Target>, Option<Target>), Failure> {
     }
 }
 
-/// Prints a line for each list as soon as it is known.
+/// What this run writes to. A list that is named isn't overwritten, not even by force: its name is there by mistake.
+fn written(given: &Given, targets: [&Option<Target>; 2]) -> Result<Written, Failure> {
+    let mut written = Written::default();
+    targets
+        .into_iter()
+        .flatten()
+        .for_each(|target| written.add(target.seen()));
+    for path in &given.paths {
+        if fs::metadata(path).is_ok_and(|seen| written.has(&seen)) {
+            let what = format!(
+                "reads {} and would write over it: give another name to --csv and --plot",
+                shown(path)
+            );
+            return Err(wrong("forecast", &what));
+        }
+    }
+    written.add_standard();
+    Ok(written)
+}
+
+/// Prints a line for each list as soon as it is known. Where standard output is lost the work ends, unless there are files to write.
 fn forecast_all(
     entries: &[Entry],
     rate: Option<Rate>,
+    has_files: bool,
     out: &mut Output,
-) -> Result<(Vec<Row>, Totals), Failure> {
+) -> (Vec<Row>, Totals, io::Result<()>) {
     let names: Vec<String> = entries.iter().map(Entry::name).collect();
     let table = Table::new(&names);
     let mut progress = Progress::new(entries.len());
     let (mut rows, mut totals) = (Vec::with_capacity(entries.len()), Totals::default());
-    writeln!(out, "{}", table.head())?;
+    let mut printed = out.line(&table.head());
     for (entry, name) in entries.iter().zip(names) {
+        if printed.is_err() && !has_files {
+            break;
+        }
         progress.show(rows.len());
-        let row = Row {
-            name,
-            found: figures(entry),
-        };
+        let found = figures(entry);
+        let row = Row { name, found };
         totals.add(&row);
         if out.is_terminal() {
             progress.clear();
         }
-        out.line(&table.row(&row))?;
+        printed = printed.and_then(|()| out.line(&table.row(&row)));
         rows.push(row);
     }
     progress.clear();
+    let printed = printed.and_then(|()| end(&table, &rows, &totals, rate, out));
+    (rows, totals, printed)
+}
+
+/// The totals, and the times.
+fn end(
+    table: &Table,
+    rows: &[Row],
+    totals: &Totals,
+    rate: Option<Rate>,
+    out: &mut Output,
+) -> io::Result<()> {
     if rows.len() > 1 {
-        writeln!(out, "{}", table.foot(&totals))?;
+        writeln!(out, "{}", table.foot(totals))?;
     }
     if let Some(rate) = rate {
         write!(out, "{}", crate::table::hours(&totals.sum, rate))?;
     }
-    out.flush()?;
-    Ok((rows, totals))
+    out.flush()
 }
 
 fn figures(entry: &Entry) -> Result<Figures, Problem> {

@@ -10,6 +10,7 @@ use std::path::{Path, PathBuf};
 use pica::LIST_LENGTH_MOST;
 
 use crate::closed;
+use crate::output::Written;
 use crate::status::{note, plain};
 use crate::text::on_one_line;
 
@@ -146,8 +147,8 @@ pub fn single(path: &OsStr) -> Entry {
     Entry::new(path, source)
 }
 
-/// Everything that the paths name, folders taken apart, in order.
-pub fn entries(paths: &[OsString]) -> Vec<Entry> {
+/// Everything that the paths name, folders taken apart, in order. What a folder has of this run's own output isn't read.
+pub fn entries(paths: &[OsString], written: &Written) -> Vec<Entry> {
     let mut found = Vec::new();
     for (k, path) in paths.iter().enumerate() {
         if path == "-" && paths[..k].contains(path) {
@@ -155,7 +156,7 @@ pub fn entries(paths: &[OsString]) -> Vec<Entry> {
             found.push(Entry::new(path, Source::Never(reason)));
         } else if path != "-" && Path::new(path).is_dir() {
             let before = found.len();
-            below(Path::new(path), &mut found);
+            below(Path::new(path), written, &mut found);
             if found.len() == before {
                 note(&format!(
                     "{}: no file in this folder, so nothing is read there",
@@ -171,10 +172,10 @@ pub fn entries(paths: &[OsString]) -> Vec<Entry> {
 
 /// Every file below a folder, in the byte order of the path's parts. A link to a folder isn't followed, so that nothing is met twice
 /// and no walk is endless; what is neither file nor folder isn't opened, because that may wait for ever.
-fn below(folder: &Path, found: &mut Vec<Entry>) {
+fn below(folder: &Path, written: &Written, found: &mut Vec<Entry>) {
     let mut left = vec![folder.to_owned()];
     while let Some(path) = left.pop() {
-        match kind(&path, path == folder) {
+        match kind(&path, path == folder, written) {
             Ok(Kind::File) => found.push(Entry::new(path, Source::File)),
             Ok(Kind::Folder) => match inside(&path) {
                 Ok(paths) => left.extend(paths.into_iter().rev()),
@@ -182,6 +183,10 @@ fn below(folder: &Path, found: &mut Vec<Entry>) {
             },
             Ok(Kind::Link) => note(&format!(
                 "{}: a link to a folder, not followed",
+                shown(&path)
+            )),
+            Ok(Kind::Output) => note(&format!(
+                "{}: this run's own output, not read",
                 shown(&path)
             )),
             Ok(Kind::Other(what)) => {
@@ -198,15 +203,18 @@ enum Kind {
     Folder,
     /// To a folder.
     Link,
+    /// Of this run.
+    Output,
     Other(&'static str),
 }
 
-fn kind(path: &Path, named: bool) -> io::Result<Kind> {
+fn kind(path: &Path, named: bool, written: &Written) -> io::Result<Kind> {
     let target = fs::metadata(path)?;
     let linked = fs::symlink_metadata(path)?.is_symlink() && !named;
     Ok(match target.file_type() {
         folder if folder.is_dir() && linked => Kind::Link,
         folder if folder.is_dir() => Kind::Folder,
+        _ if written.has(&target) => Kind::Output,
         file if file.is_file() => Kind::File,
         other => Kind::Other(special(other)),
     })

@@ -7,7 +7,7 @@ use crate::input::{entries, Entry};
 use crate::json::{object, Value};
 use crate::lists::{self, List, Problem};
 use crate::options::{parse, wrong, Known};
-use crate::output::Output;
+use crate::output::{Output, Written};
 use crate::status::{note, Failure, Outcome, Status};
 use crate::text::{grouped, on_one_line};
 use crate::{csv, refusals};
@@ -77,7 +77,7 @@ pub fn run(args: &[OsString], out: &mut Output) -> Outcome {
             "names nothing to judge: give files, folders or -",
         ));
     }
-    let entries = entries(&given.paths);
+    let entries = entries(&given.paths, &Written::standard());
     let (status, count) = judge_all(&entries, form, out)?;
     if entries.len() > 1 {
         let Count {

@@ -188,6 +188,11 @@ fn what_cannot_be_written_is_told_before_the_work() {
         let cases = [
             (folder.path("no/such"), "there is no such folder"),
             (folder.0.clone(), "is a folder: give a file's name"),
+            (
+                folder.path("new/"),
+                "is a folder's name: give a file's name",
+            ),
+            (folder.path("in/"), "is a folder's name: give a file's name"),
             ("-".into(), "is no file's name"),
             ("".into(), "is no file's name"),
             ("/proc/pica".into(), "can't be written"),
