@@ -7,6 +7,7 @@ use crate::lists::{List, Problem};
 use crate::parts::{Run, Shortest};
 use crate::rate::Rate;
 use crate::refusals;
+use crate::text::grouped;
 
 /// Of one list, or the sums of several.
 #[derive(Clone, Copy, Debug, Default, PartialEq, Eq)]
@@ -80,11 +81,12 @@ impl Totals {
 
     /// What the sums leave out.
     pub fn left_out(&self) -> Option<String> {
+        let (refused, unreadable) = (grouped(self.refused), grouped(self.unreadable));
         match (self.refused, self.unreadable) {
             (0, 0) => None,
-            (refused, 0) => Some(format!("without {refused} refused")),
-            (0, unreadable) => Some(format!("without {unreadable} unreadable")),
-            (refused, unreadable) => Some(format!(
+            (_, 0) => Some(format!("without {refused} refused")),
+            (0, _) => Some(format!("without {unreadable} unreadable")),
+            _ => Some(format!(
                 "without {refused} refused and {unreadable} unreadable"
             )),
         }
@@ -132,7 +134,7 @@ fn fields(row: &Row, rate: Option<Rate>) -> Vec<String> {
         .found
         .as_ref()
         .map_or_else(|_| Default::default(), |figures| numbers(figures, rate));
-    let start = [row.name.clone(), verdict.to_owned()];
+    let start = [csv::path(&row.name), verdict.to_owned()];
     let end = [meaning.to_owned(), advice.to_owned()];
     start
         .into_iter()

@@ -27,19 +27,20 @@ list a line tells its words, its register writes, the words of the shortest list
 writes in the same order, and what that saves; then come the totals. A list that is refused or
 unreadable gets its line too, and is left out of the totals.
 
-No list that says the same is shorter than what is told: that is proved. Over 4,096 writes are
-packed in parts, and where a cut between parts may cost something two bounds are told, at least and
-at most; the columns then have what is sure: the longest that the shortest list can be, and the
-least that it saves.
+No list that says the same writes is shorter: that is proved. Over 4,096 writes are packed in parts,
+and where a cut between parts may cost something two bounds are told, at least and at most, which
+are proved too. The columns then have what is sure: the longest that the shortest list can be, and
+the least that it saves.
 
   --rate N      words a second, as 1000000 or 0.5: how long the lists take in hours, minutes and
                 seconds, as captured and at their shortest. Times of a minute and more are rounded
                 to whole seconds, shorter ones to thousandths
-  --csv FILE    the figures as comma-separated values, a row for each list. Columns: path, verdict
-                (ok, refused or unreadable), words, writes, shortest_at_least, shortest_at_most,
-                saved_at_least, saved_at_most (in words); captured_seconds,
+  --csv FILE    the figures as comma-separated values in UTF-8, a row for each list. Columns: path,
+                verdict (ok, refused or unreadable), words, writes, shortest_at_least,
+                shortest_at_most, saved_at_least, saved_at_most (in words); captured_seconds,
                 shortest_at_least_seconds, shortest_at_most_seconds (with --rate); meaning,
-                what_to_do (of a list that was refused or unreadable)
+                what_to_do (of a list that was refused or unreadable). A path that a spreadsheet
+                could take for a formula begins with ./
   --plot FILE   a picture for a report, as SVG: the words of each list before and after, and the
                 totals. Of over 40 lists the largest 40 are drawn
   --force       overwrites these files if they are there

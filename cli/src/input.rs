@@ -56,6 +56,20 @@ impl From<io::Error> for Reason {
     }
 }
 
+/// Why a path can't be read. A link that leads to nothing is there, so that its name needs no check.
+fn unreadable(path: &Path, error: io::Error) -> Reason {
+    let is_link = fs::symlink_metadata(path).is_ok_and(|seen| seen.is_symlink());
+    let leads_nowhere = error.kind() == ErrorKind::NotFound || error.raw_os_error() == Some(ELOOP);
+    if is_link && leads_nowhere {
+        let advice = "mend the link, or name the file itself";
+        return Reason::new("a link that leads to no file", advice);
+    }
+    error.into()
+}
+
+/// Linux's number for links that lead back to themselves.
+const ELOOP: i32 = 40;
+
 /// Something that is read as a list.
 pub struct Entry {
     path: PathBuf,
@@ -120,7 +134,9 @@ impl Entry {
     pub fn open(&self) -> Result<File, Reason> {
         let file = match &self.source {
             Source::Never(reason) => return Err(reason.clone()),
-            Source::File => File::open(&self.path)?,
+            Source::File => {
+                File::open(&self.path).map_err(|error| unreadable(&self.path, error))?
+            }
             Source::StandardInput if closed::standard_input() => {
                 return Err(Reason::new(
                     "standard input is closed",
@@ -193,7 +209,10 @@ fn below(folder: &Path, written: &Written, found: &mut Vec<Entry>) {
                 let reason = Reason::new(what, "name it by itself to read it");
                 found.push(Entry::new(path, Source::Never(reason)));
             }
-            Err(error) => found.push(Entry::new(path, Source::Never(error.into()))),
+            Err(error) => {
+                let reason = unreadable(&path, error);
+                found.push(Entry::new(path, Source::Never(reason)));
+            }
         }
     }
 }

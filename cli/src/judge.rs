@@ -198,7 +198,7 @@ fn parts(verdict: &Result<List, Problem>) -> Row {
 fn fields(name: &str, verdict: &Result<List, Problem>) -> Vec<String> {
     let (verdict, numbers, texts) = parts(verdict);
     let numbers = numbers.map(|number| number.map_or(String::new(), |number| number.to_string()));
-    [name.to_owned(), verdict.to_owned()]
+    [csv::path(name), verdict.to_owned()]
         .into_iter()
         .chain(numbers)
         .chain(texts)

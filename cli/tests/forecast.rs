@@ -156,7 +156,7 @@ fn the_picture_is_well_formed_and_has_the_figures() {
         &["--plot", path.to_str().unwrap(), "--rate", "1000"],
     );
     let texts = xml(&fs::read_to_string(path).unwrap());
-    let sum = "4 lists, without 1 refused: 8,724 words captured, 4,742 to 4,744 at the shortest, 3,980 to 3,982 saved (45.6 %)";
+    let sum = "4 lists, without 1 refused: 8,724 words captured, 4,742 to 4,744 at the shortest, 3,980 to 3,982 saved (at least 45.6 %)";
     let expected = [
         sum,
         "captured",
@@ -165,7 +165,7 @@ fn the_picture_is_well_formed_and_has_the_figures() {
         "rising",
         "4 (\u{2212}33.3 %)",
         "pair",
-        "4,474 to 4,476 (\u{2212}45.4 %)",
+        "4,474 to 4,476 (\u{2212}45.4 % or more)",
         "long&<odd>\\u{1b}\u{FFFD}\"",
         "10,000",
         "total of 4 lists",

@@ -78,7 +78,7 @@ fn what_is_no_file_in_a_folder_is_told_and_never_opened() {
     let expected = [
         "a: ok, 1 write, 2 words",
         "link: ok, 1 write, 2 words",
-        "lost: unreadable: there is no such file; check its name",
+        "lost: unreadable: a link that leads to no file; mend the link, or name the file itself",
         "pipe: unreadable: a pipe and no file; name it by itself to read it",
         "socket: unreadable: a socket and no file; name it by itself to read it",
         "zero: unreadable: a device and no file; name it by itself to read it",

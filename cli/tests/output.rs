@@ -192,7 +192,10 @@ fn what_cannot_be_written_is_told_before_the_work() {
                 folder.path("new/"),
                 "is a folder's name: give a file's name",
             ),
-            (folder.path("in/"), "is a folder's name: give a file's name"),
+            (
+                folder.path("in/list/"),
+                "is a folder's name: give a file's name",
+            ),
             ("-".into(), "is no file's name"),
             ("".into(), "is no file's name"),
             ("/proc/pica".into(), "can't be written"),
