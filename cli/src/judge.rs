@@ -1,9 +1,10 @@
 //! `pica judge`: a verdict for each list.
 
-use std::ffi::OsString;
+use std::ffi::{OsStr, OsString};
 use std::io::Write;
+use std::path::Path;
 
-use crate::input::{entries, Entry};
+use crate::input::{entries, shown, Entry};
 use crate::json::{object, Value};
 use crate::lists::{self, List, Problem};
 use crate::options::{parse, wrong, Known};
@@ -77,6 +78,14 @@ pub fn run(args: &[OsString], out: &mut Output) -> Outcome {
             "names nothing to judge: give files, folders or -",
         ));
     }
+    if let Some(path) = given
+        .paths
+        .iter()
+        .find(|path| form != Form::Text && is_target(path))
+    {
+        let what = format!("prints on standard output, and there is no {} to judge: to write that file, put > before its name", shown(path));
+        return Err(wrong("judge", &what));
+    }
     let entries = entries(&given.paths, &Written::standard());
     let (status, count) = judge_all(&entries, form, out)?;
     if entries.len() > 1 {
@@ -92,6 +101,13 @@ pub fn run(args: &[OsString], out: &mut Output) -> Outcome {
         ));
     }
     Ok(status)
+}
+
+/// Whether a path is rather a file to write, since `pica forecast` has `--csv FILE`.
+fn is_target(path: &OsStr) -> bool {
+    let path = Path::new(path);
+    let ending = path.extension().and_then(OsStr::to_str);
+    matches!(ending, Some("csv" | "json")) && !path.exists()
 }
 
 fn judge_all(entries: &[Entry], form: Form, out: &mut Output) -> Result<(Status, Count), Failure> {
