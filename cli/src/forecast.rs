@@ -109,15 +109,19 @@ fn targets(given: &Given) -> Result<(Option<Target>, Option<Target>), Failure> {
     }
 }
 
-/// What this run writes to. A list that is named isn't overwritten, not even by force: its name is there by mistake.
+/// What this run writes to. A list that is named isn't overwritten, not even by force: its name is there by mistake. Nor is the file
+/// that the table goes to.
 fn written(given: &Given, targets: [&Option<Target>; 2]) -> Result<Written, Failure> {
-    let mut written = Written::default();
-    targets
-        .into_iter()
-        .flatten()
-        .for_each(|target| written.add(target.seen()));
+    let (mut written, mut files) = (Written::standard(), Written::default());
+    for seen in targets.into_iter().flatten().filter_map(Target::seen) {
+        if written.has(&seen) {
+            let what = "prints its table into that file too: give another name to --csv and --plot";
+            return Err(wrong("forecast", what));
+        }
+        files.add(&seen);
+    }
     for path in &given.paths {
-        if fs::metadata(path).is_ok_and(|seen| written.has(&seen)) {
+        if fs::metadata(path).is_ok_and(|seen| files.has(&seen)) {
             let what = format!(
                 "reads {} and would write over it: give another name to --csv and --plot",
                 shown(path)
@@ -125,7 +129,7 @@ fn written(given: &Given, targets: [&Option<Target>; 2]) -> Result<Written, Fail
             return Err(wrong("forecast", &what));
         }
     }
-    written.add_standard();
+    written.join(files);
     Ok(written)
 }
 

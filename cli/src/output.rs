@@ -67,25 +67,22 @@ pub struct Written(Vec<(u64, u64)>);
 impl Written {
     /// Standard output and standard error, where they go to files.
     pub fn standard() -> Self {
+        let seen = |stream: BorrowedFd| File::from(stream.try_clone_to_owned()?).metadata();
         let mut written = Self::default();
-        written.add_standard();
+        let seen = [seen(io::stdout().as_fd()), seen(io::stderr().as_fd())];
+        seen.iter().flatten().for_each(|seen| written.add(seen));
         written
     }
 
-    pub fn add_standard(&mut self) {
-        let seen = |stream: BorrowedFd| {
-            File::from(stream.try_clone_to_owned().ok()?)
-                .metadata()
-                .ok()
-        };
-        self.add(seen(io::stdout().as_fd()));
-        self.add(seen(io::stderr().as_fd()));
+    /// Adds what is a file.
+    pub fn add(&mut self, seen: &Metadata) {
+        if seen.is_file() {
+            self.0.push((seen.dev(), seen.ino()));
+        }
     }
 
-    /// Adds what is a file.
-    pub fn add(&mut self, seen: Option<Metadata>) {
-        let file = seen.filter(Metadata::is_file);
-        self.0.extend(file.map(|file| (file.dev(), file.ino())));
+    pub fn join(&mut self, other: Self) {
+        self.0.extend(other.0);
     }
 
     pub fn has(&self, seen: &Metadata) -> bool {

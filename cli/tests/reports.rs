@@ -85,6 +85,24 @@ fn a_list_that_is_read_is_never_written_over() {
 }
 
 #[test]
+fn the_tables_file_is_never_written_over() {
+    let (folder, out) = (captures("reports-table"), Folder::new("reports-table-out"));
+    let script = "\"$0\" forecast \"$1\" --csv /dev/stdout --force > \"$2\"; echo $?; cat \"$2\"";
+    let ran = shell(script, &[&folder.0, &out.path("table")]);
+    assert_eq!(ran.out, "2\n");
+    assert!(
+        ran.err.contains("prints its table into that file too"),
+        "{}",
+        ran.err
+    );
+    let piped = shell(
+        "\"$0\" forecast \"$1\" --csv /dev/stdout | cat",
+        &[&folder.0],
+    );
+    assert!(piped.out.contains("\npath,verdict,"), "{}", piped.out);
+}
+
+#[test]
 fn what_is_overwritten_keeps_its_permissions() {
     let (folder, out) = (captures("reports-mode"), Folder::new("reports-mode-out"));
     let target = out.bytes("x.csv", b"old");
