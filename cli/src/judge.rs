@@ -78,13 +78,8 @@ pub fn run(args: &[OsString], out: &mut Output) -> Outcome {
             "names nothing to judge: give files, folders or -",
         ));
     }
-    if let Some(path) = given
-        .paths
-        .iter()
-        .find(|path| form != Form::Text && is_target(path))
-    {
-        let what = format!("prints on standard output, and there is no {} to judge: to write that file, put > before its name", shown(path));
-        return Err(wrong("judge", &what));
+    if form != Form::Text {
+        no_targets(&given.paths)?;
     }
     let entries = entries(&given.paths, &Written::standard());
     let (status, count) = judge_all(&entries, form, out)?;
@@ -103,11 +98,21 @@ pub fn run(args: &[OsString], out: &mut Output) -> Outcome {
     Ok(status)
 }
 
-/// Whether a path is rather a file to write, since `pica forecast` has `--csv FILE`.
-fn is_target(path: &OsStr) -> bool {
-    let path = Path::new(path);
-    let ending = path.extension().and_then(OsStr::to_str);
-    matches!(ending, Some("csv" | "json")) && !path.exists()
+/// Refuses a path that is rather a file to write, since `pica forecast` has `--csv FILE`.
+fn no_targets(paths: &[OsString]) -> Result<(), Failure> {
+    let is_target = |path: &&OsString| {
+        let path = Path::new(path);
+        let ending = path.extension().and_then(OsStr::to_str);
+        matches!(ending, Some("csv" | "json")) && !path.exists()
+    };
+    let Some(path) = paths.iter().find(is_target) else {
+        return Ok(());
+    };
+    let what = format!(
+        "prints on standard output, and there is no {} to judge: to write that file, put > before its name",
+        shown(path)
+    );
+    Err(wrong("judge", &what))
 }
 
 fn judge_all(entries: &[Entry], form: Form, out: &mut Output) -> Result<(Status, Count), Failure> {
