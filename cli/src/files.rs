@@ -4,15 +4,16 @@ use std::ffi::OsStr;
 use std::fs::{self, File, Metadata, OpenOptions};
 use std::io::{self, ErrorKind, Write};
 use std::os::unix::ffi::OsStrExt;
-use std::os::unix::fs::FileTypeExt;
+use std::os::unix::fs::{FileTypeExt, MetadataExt};
 use std::path::{Path, PathBuf};
 
 use crate::input::shown;
+use crate::options::wrong;
 use crate::status::{plain, Failure};
 
 /// A file to be written. It is looked at before the work begins, and written in one go after it.
 pub struct Target {
-    /// What is named, with links followed.
+    /// What is named, with links followed, so that two names of one file are the same.
     path: PathBuf,
     name: String,
     force: bool,
@@ -29,8 +30,12 @@ impl Target {
                 "`{name}` is no file's name: give one to write to"
             )));
         }
-        let is_folder = path.as_bytes().ends_with(b"/");
-        let path = fs::canonicalize(path).unwrap_or_else(|_| PathBuf::from(path));
+        if path.as_bytes().ends_with(b"/") {
+            return Err(Failure::Usage(format!(
+                "{name} is a folder's name: give a file's name"
+            )));
+        }
+        let path = resolved(Path::new(path));
         let mut target = Self {
             path,
             name,
@@ -44,8 +49,6 @@ impl Target {
                 let what = if kind.is_dir() { "folder" } else { "device" };
                 return Err(target.stopped(&format!("is a {what}: give a file's name")));
             }
-        } else if is_folder {
-            return Err(target.stopped("is a folder's name: give a file's name"));
         }
         if !target.is_stream {
             target.refuse_what_is_there()?;
@@ -57,6 +60,23 @@ impl Target {
 
     pub fn is_same_as(&self, other: &Self) -> bool {
         self.path == other.path
+    }
+
+    /// Refuses to write over what is read: its name is there by mistake, even with --force.
+    pub fn spare(&self, command: &str, path: &OsStr) -> Result<(), Failure> {
+        let is_this = |read: Metadata| {
+            self.seen().is_some_and(|own| {
+                own.is_file() && (own.dev(), own.ino()) == (read.dev(), read.ino())
+            })
+        };
+        if path != "-" && fs::metadata(path).is_ok_and(is_this) {
+            let what = format!(
+                "reads {} and would write over it: give another name to write to",
+                shown(path)
+            );
+            return Err(wrong(command, &what));
+        }
+        Ok(())
     }
 
     /// What is there under its name.
@@ -154,6 +174,19 @@ impl Target {
     fn stopped(&self, what: &str) -> Failure {
         Failure::Stopped(format!("{} {what}", self.name))
     }
+}
+
+/// A path with links followed, also where the file isn't there yet.
+fn resolved(path: &Path) -> PathBuf {
+    let in_folder = || {
+        let folder = path
+            .parent()
+            .filter(|folder| !folder.as_os_str().is_empty());
+        let folder = fs::canonicalize(folder.unwrap_or(Path::new("."))).ok()?;
+        Some(folder.join(path.file_name()?))
+    };
+    let whole = fs::canonicalize(path).ok();
+    whole.or_else(in_folder).unwrap_or_else(|| path.to_owned())
 }
 
 /// Waits until the bytes are on the disk, because a full one may tell only then. Not every file system can do that.

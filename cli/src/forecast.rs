@@ -1,12 +1,11 @@
 //! `pica forecast`: how short lists can be, and how long they take.
 
 use std::ffi::OsString;
-use std::fs;
 use std::io::{self, Write};
 
 use crate::figures::{Figures, Row, Totals};
 use crate::files::Target;
-use crate::input::{entries, shown, Entry};
+use crate::input::{entries, Entry};
 use crate::lists::{self, Problem};
 use crate::options::{parse, wrong, Given, Known};
 use crate::output::{Output, Written};
@@ -109,27 +108,20 @@ fn targets(given: &Given) -> Result<(Option<Target>, Option<Target>), Failure> {
     }
 }
 
-/// What this run writes to. A list that is named isn't overwritten, not even by force: its name is there by mistake. Nor is the file
-/// that the table goes to.
+/// What this run writes to. Neither a list that is named nor the file that the table goes to is overwritten, not even by force.
 fn written(given: &Given, targets: [&Option<Target>; 2]) -> Result<Written, Failure> {
-    let (mut written, mut files) = (Written::standard(), Written::default());
-    for seen in targets.into_iter().flatten().filter_map(Target::seen) {
-        if written.has(&seen) {
+    let mut written = Written::standard();
+    for target in targets.into_iter().flatten() {
+        for path in &given.paths {
+            target.spare("forecast", path)?;
+        }
+        let seen = target.seen();
+        if seen.as_ref().is_some_and(|seen| written.has(seen)) {
             let what = "prints its table into that file too: give another name to --csv and --plot";
             return Err(wrong("forecast", what));
         }
-        files.add(&seen);
+        seen.iter().for_each(|seen| written.add(seen));
     }
-    for path in &given.paths {
-        if fs::metadata(path).is_ok_and(|seen| files.has(&seen)) {
-            let what = format!(
-                "reads {} and would write over it: give another name to --csv and --plot",
-                shown(path)
-            );
-            return Err(wrong("forecast", &what));
-        }
-    }
-    written.join(files);
     Ok(written)
 }
 

@@ -24,9 +24,9 @@ refusal's number, the place of the command at fault (in words and in bytes from 
 what it means and what to do; or `unreadable` and why. A list that sets nothing gets a remark. Of
 several lists it is said at the end, on standard error, how many were accepted.
 
-  --csv    rows of comma-separated values on standard output, the first with the columns' names:
-           path, verdict (ok, refused or unreadable), writes, words, number, place, byte, meaning,
-           what_to_do
+  --csv    rows of comma-separated values on standard output (in UTF-8, with lines that end in
+           CR LF), the first with the columns' names: path, verdict (ok, refused or unreadable),
+           writes, words, number, place, byte, meaning, what_to_do
   --json   the same as one array of objects
 
 Examples

@@ -81,10 +81,6 @@ impl Written {
         }
     }
 
-    pub fn join(&mut self, other: Self) {
-        self.0.extend(other.0);
-    }
-
     pub fn has(&self, seen: &Metadata) -> bool {
         self.0.contains(&(seen.dev(), seen.ino()))
     }

@@ -47,6 +47,9 @@ pub fn run(args: &[OsString], out: &mut Output) -> Outcome {
         .value("--out")
         .map(|to| Target::new(to, given.has("--force")))
         .transpose()?;
+    if let Some(target) = &target {
+        target.spare("pack", path)?;
+    }
     if target.is_none() && out.is_terminal() {
         return Err(wrong(
             "pack",

@@ -71,16 +71,43 @@ fn what_a_run_writes_into_a_folder_is_no_list_of_it() {
 }
 
 #[test]
-fn a_list_that_is_read_is_never_written_over() {
+fn what_is_read_is_never_written_over() {
     let folder = captures("reports-over");
+    let lines = b"041,F,1\n";
+    folder.bytes("x.csv", lines);
+    std::os::unix::fs::symlink("a", folder.path("link")).unwrap();
     let before = fs::read(folder.path("a")).unwrap();
-    for files in ["b a --plot ./a", "a --csv \"$PWD/a\""] {
-        let script = format!("cd \"$1\" && \"$0\" forecast --force {files}");
-        let ran = shell(&script, &[&folder.0]);
-        assert_eq!((ran.status, ran.out.as_str()), (Some(2), ""), "{files}");
-        let told = "reads a and would write over it: give another name";
-        assert!(ran.err.contains(told), "{files}: {}", ran.err);
+    for (read, args) in [
+        ("a", "forecast b a --plot ./a"),
+        ("a", "forecast a --csv \"$PWD/link\""),
+        ("link", "writes link --out a"),
+        ("x.csv", "pack x.csv --out ../reports-over/x.csv"),
+    ] {
+        let ran = shell(&format!("cd \"$1\" && \"$0\" {args} --force"), &[&folder.0]);
+        assert_eq!((ran.status, ran.out.as_str()), (Some(2), ""), "{args}");
+        let told = format!("reads {read} and would write over it: give another name");
+        assert!(ran.err.contains(&told), "{args}: {}", ran.err);
         assert_eq!(fs::read(folder.path("a")).unwrap(), before);
+        assert_eq!(fs::read(folder.path("x.csv")).unwrap(), lines);
+    }
+}
+
+#[test]
+fn one_file_by_two_names_is_one_file() {
+    let (folder, out) = (captures("reports-names"), Folder::new("reports-names-out"));
+    for names in [
+        "--csv x --plot ./x",
+        "--csv x --plot ../reports-names-out/x",
+    ] {
+        let script = format!("cd \"$2\" && \"$0\" forecast \"$1\" {names} --force");
+        let ran = shell(&script, &[&folder.0, &out.0]);
+        assert_eq!((ran.status, ran.out.as_str()), (Some(2), ""), "{names}");
+        assert!(
+            ran.err.contains("has one file for --csv and --plot"),
+            "{}",
+            ran.err
+        );
+        assert!(!out.path("x").exists());
     }
 }
 
