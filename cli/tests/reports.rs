@@ -3,8 +3,7 @@
 mod common;
 
 use std::fs;
-use std::os::unix::fs::PermissionsExt;
-use std::os::unix::net::UnixListener;
+use std::os::unix::fs::{FileTypeExt, PermissionsExt};
 
 use common::{apart, pica, shell, Folder};
 
@@ -145,8 +144,7 @@ fn what_is_overwritten_keeps_its_permissions() {
 #[test]
 fn what_is_no_file_is_never_replaced() {
     let folder = captures("reports-socket");
-    let socket = std::env::temp_dir().join(format!("pica-reports-{}", std::process::id()));
-    let _bound = UnixListener::bind(&socket).unwrap();
+    let (_bound, socket) = (folder.socket("socket"), folder.path("socket"));
     let args = ["forecast".as_ref(), folder.0.as_os_str(), "--csv".as_ref()];
     let ran = pica(&[&args[..], &[socket.as_os_str(), "--force".as_ref()]].concat());
     assert_eq!(ran.status, Some(2));
@@ -155,5 +153,5 @@ fn what_is_no_file_is_never_replaced() {
         "{}",
         ran.err
     );
-    fs::remove_file(&socket).unwrap();
+    assert!(fs::metadata(&socket).unwrap().file_type().is_socket());
 }
