@@ -104,17 +104,25 @@ impl Run {
         seams.filter(|&cut| !self.is_apart(cut)).count() as u64
     }
 
-    /// The parts' shortest lists, joined, and by how many words that may be over the shortest list.
+    /// The parts' shortest lists, joined, by the way to cut that gives the shorter one, and by how many words that may be over the
+    /// shortest list.
     pub fn packed(&self) -> Result<(Vec<u32>, u64), Refusal> {
+        let [one, other] = UNBROKEN.map(|unbroken| self.joined(&self.parts(unbroken)));
+        let (one, other) = (one?, other?);
+        let list = if other.len() < one.len() { other } else { one };
+        let words = list.len() as u64;
+        Ok((list, words - self.shortest(words)?.least))
+    }
+
+    fn joined(&self, parts: &[Range<usize>]) -> Result<Vec<u32>, Refusal> {
         let mut list = Vec::new();
-        for part in &self.parts(UNBROKEN[0]) {
+        for part in parts {
             let start = list.len();
             list.resize(start + 2 * part.len(), 0); // a list is never longer than two words a write
             let words = self.pack(part, &mut list[start..])?;
             list.truncate(start + words);
         }
-        let words = list.len() as u64;
-        Ok((list, words - self.shortest(words)?.least))
+        Ok(list)
     }
 }
 
@@ -146,7 +154,7 @@ mod tests {
             panic!("allowed writes are packed");
         };
         let (list, over) = run.packed().unwrap();
-        assert_eq!(list.len() as u64, least + over);
+        assert_eq!((list.len() as u64, over), (most, most - least));
         (least, most)
     }
 
@@ -183,6 +191,9 @@ mod tests {
         let same = run((0..4098).map(|_| 0x41));
         assert_eq!(ends(&same), [4096, 4098]);
         assert_eq!(bounds(&same), (16 * 256 + 20, 16 * 256 + 20));
+        // each id thirteen times: here the second way is the shorter by two words, and the first gives the bound
+        let steps = run((0..4099).map(|k| 0x40 + k / 13));
+        assert_eq!(bounds(&steps), (4416, 4416));
         // as many as a list can say, which has them in 256 commands of 256 words
         let longest = run((0..65_280).map(|_| 0x41));
         assert_eq!(bounds(&longest), (65_536, 65_536));
