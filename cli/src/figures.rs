@@ -166,3 +166,24 @@ fn numbers(figures: &Figures, rate: Option<Rate>) -> ([String; 6], [String; 3]) 
         [words, shortest.least, shortest.most].map(seconds),
     )
 }
+
+#[cfg(test)]
+mod tests {
+    use super::*;
+
+    #[test]
+    fn what_is_left_out_is_counted() {
+        let left_out = |refused, unreadable| {
+            let totals = Totals {
+                refused,
+                unreadable,
+                ..Totals::default()
+            };
+            totals.left_out().unwrap_or_default()
+        };
+        assert_eq!(left_out(0, 0), "");
+        assert_eq!(left_out(1000, 0), "without 1,000 refused");
+        assert_eq!(left_out(0, 2), "without 2 unreadable");
+        assert_eq!(left_out(1, 2000), "without 1 refused and 2,000 unreadable");
+    }
+}

@@ -16,8 +16,8 @@ pub struct Run {
 /// the first is seldom too long and the second seldom too short.
 const UNBROKEN: [usize; 2] = [RUN_LENGTH_MOST / 255 * 255, RUN_LENGTH_MOST];
 
-/// The fewest words that say a run: at least and at most so many. The two are equal for at most 4,096 writes, and for more where each
-/// seam stands between two writes that no command carries both.
+/// The fewest words that say a run: at least and at most so many. The two are equal for at most 4,096 writes, for more where each seam
+/// stands between two writes that no command carries both, and wherever the bounds of two ways to cut meet.
 #[derive(Clone, Copy, Debug, Default, PartialEq, Eq)]
 pub struct Shortest {
     pub least: u64,

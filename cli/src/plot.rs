@@ -226,6 +226,32 @@ fn not_drawn(others: &Totals) -> String {
 mod tests {
     use super::*;
 
+    /// The largest sums that there can be of a hundred thousand lists, at about five units a letter.
+    #[test]
+    fn large_sums_fit() {
+        let mut totals = Totals {
+            lists: 100_000,
+            refused: 1000,
+            unreadable: 1000,
+            ..Totals::default()
+        };
+        (totals.sum.words, totals.sum.shortest.most) = (6_553_600_000, 6_553_500_000);
+        totals.sum.shortest.least = 6_553_400_000;
+        let size = |picture: &str| {
+            let mut lines = picture.lines().filter(|line| line.contains("<text"));
+            let summary = lines.find(|line| line.contains(" words captured, "));
+            summary
+                .and_then(|line| line.split('"').nth(5))
+                .map(str::to_owned)
+        };
+        let large = picture(&[], &totals, None);
+        assert_eq!(size(&large).as_deref(), Some("9"));
+        // the total's bars end where there is room for their numbers
+        assert!(large.contains("width=\"376.00\""));
+        (totals.refused, totals.unreadable) = (0, 0);
+        assert_eq!(size(&picture(&[], &totals, None)).as_deref(), Some("11"));
+    }
+
     #[test]
     fn ticks_are_round() {
         let ends =
