@@ -7,6 +7,12 @@ pub fn row<T: AsRef<str>>(fields: &[T]) -> String {
     fields.join(",") + "\r\n"
 }
 
+/// A path that a spreadsheet doesn't take for a formula: with ./ before it, it names the same file.
+pub fn path(name: &str) -> String {
+    let is_formula = name != "-" && name.starts_with(['=', '+', '-', '@', '\t', '\r']);
+    format!("{}{name}", if is_formula { "./" } else { "" })
+}
+
 fn field(text: &str) -> String {
     if text.contains(['"', ',', '\r', '\n']) {
         format!("\"{}\"", text.replace('"', "\"\""))
@@ -17,6 +23,13 @@ fn field(text: &str) -> String {
 
 #[cfg(test)]
 mod tests {
+    #[test]
+    fn paths_are_no_formulas() {
+        let names = ["=1+1", "-x", "@a", "+", "-", "a=b", "./=x"];
+        let paths = ["./=1+1", "./-x", "./@a", "./+", "-", "a=b", "./=x"];
+        assert_eq!(names.map(super::path), paths);
+    }
+
     #[test]
     fn fields_are_quoted_where_they_must_be() {
         assert_eq!(super::row(&["a", "", "b c"]), "a,,b c\r\n");

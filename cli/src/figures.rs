@@ -7,6 +7,7 @@ use crate::lists::{List, Problem};
 use crate::parts::{Run, Shortest};
 use crate::rate::Rate;
 use crate::refusals;
+use crate::text::grouped;
 
 /// Of one list, or the sums of several.
 #[derive(Clone, Copy, Debug, Default, PartialEq, Eq)]
@@ -80,11 +81,12 @@ impl Totals {
 
     /// What the sums leave out.
     pub fn left_out(&self) -> Option<String> {
+        let (refused, unreadable) = (grouped(self.refused), grouped(self.unreadable));
         match (self.refused, self.unreadable) {
             (0, 0) => None,
-            (refused, 0) => Some(format!("without {refused} refused")),
-            (0, unreadable) => Some(format!("without {unreadable} unreadable")),
-            (refused, unreadable) => Some(format!(
+            (_, 0) => Some(format!("without {refused} refused")),
+            (0, _) => Some(format!("without {unreadable} unreadable")),
+            _ => Some(format!(
                 "without {refused} refused and {unreadable} unreadable"
             )),
         }
@@ -132,7 +134,7 @@ fn fields(row: &Row, rate: Option<Rate>) -> Vec<String> {
         .found
         .as_ref()
         .map_or_else(|_| Default::default(), |figures| numbers(figures, rate));
-    let start = [row.name.clone(), verdict.to_owned()];
+    let start = [csv::path(&row.name), verdict.to_owned()];
     let end = [meaning.to_owned(), advice.to_owned()];
     start
         .into_iter()
@@ -163,4 +165,25 @@ fn numbers(figures: &Figures, rate: Option<Rate>) -> ([String; 6], [String; 3]) 
         numbers.map(|number| number.to_string()),
         [words, shortest.least, shortest.most].map(seconds),
     )
+}
+
+#[cfg(test)]
+mod tests {
+    use super::*;
+
+    #[test]
+    fn what_is_left_out_is_counted() {
+        let left_out = |refused, unreadable| {
+            let totals = Totals {
+                refused,
+                unreadable,
+                ..Totals::default()
+            };
+            totals.left_out().unwrap_or_default()
+        };
+        assert_eq!(left_out(0, 0), "");
+        assert_eq!(left_out(1000, 0), "without 1,000 refused");
+        assert_eq!(left_out(0, 2), "without 2 unreadable");
+        assert_eq!(left_out(1, 2000), "without 1 refused and 2,000 unreadable");
+    }
 }

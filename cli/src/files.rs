@@ -1,17 +1,19 @@
 //! Files that the command writes: never over one that is there, unless it is told to, and never by halves.
 
 use std::ffi::OsStr;
-use std::fs::{self, File, OpenOptions};
+use std::fs::{self, File, Metadata, OpenOptions};
 use std::io::{self, ErrorKind, Write};
-use std::os::unix::fs::FileTypeExt;
+use std::os::unix::ffi::OsStrExt;
+use std::os::unix::fs::{FileTypeExt, MetadataExt};
 use std::path::{Path, PathBuf};
 
 use crate::input::shown;
+use crate::options::wrong;
 use crate::status::{plain, Failure};
 
 /// A file to be written. It is looked at before the work begins, and written in one go after it.
 pub struct Target {
-    /// What is named, with links followed.
+    /// What is named, with links followed, so that two names of one file are the same.
     path: PathBuf,
     name: String,
     force: bool,
@@ -28,22 +30,25 @@ impl Target {
                 "`{name}` is no file's name: give one to write to"
             )));
         }
-        let path = fs::canonicalize(path).unwrap_or_else(|_| PathBuf::from(path));
+        if path.as_bytes().ends_with(b"/") {
+            return Err(Failure::Usage(format!(
+                "{name} is a folder's name: give a file's name"
+            )));
+        }
+        let path = resolved(Path::new(path));
         let mut target = Self {
             path,
             name,
             force,
             is_stream: false,
         };
-        match fs::metadata(&target.path) {
-            Ok(seen) if seen.is_dir() => {
-                return Err(target.stopped("is a folder: give a file's name"))
+        if let Some(seen) = target.seen() {
+            let kind = seen.file_type();
+            target.is_stream = kind.is_fifo() || kind.is_char_device();
+            if !target.is_stream && !kind.is_file() {
+                let what = if kind.is_dir() { "folder" } else { "device" };
+                return Err(target.stopped(&format!("is a {what}: give a file's name")));
             }
-            Ok(seen) => {
-                let kind = seen.file_type();
-                target.is_stream = kind.is_fifo() || kind.is_char_device();
-            }
-            Err(_) => {}
         }
         if !target.is_stream {
             target.refuse_what_is_there()?;
@@ -55,6 +60,28 @@ impl Target {
 
     pub fn is_same_as(&self, other: &Self) -> bool {
         self.path == other.path
+    }
+
+    /// Refuses to write over what is read: its name is there by mistake, even with --force.
+    pub fn spare(&self, command: &str, path: &OsStr) -> Result<(), Failure> {
+        let is_this = |read: Metadata| {
+            self.seen().is_some_and(|own| {
+                own.is_file() && (own.dev(), own.ino()) == (read.dev(), read.ino())
+            })
+        };
+        if path != "-" && fs::metadata(path).is_ok_and(is_this) {
+            let what = format!(
+                "reads {} and would write over it: give another name to write to",
+                shown(path)
+            );
+            return Err(wrong(command, &what));
+        }
+        Ok(())
+    }
+
+    /// What is there under its name.
+    pub fn seen(&self) -> Option<Metadata> {
+        fs::metadata(&self.path).ok()
     }
 
     /// Writes it whole, or leaves what was there.
@@ -83,6 +110,8 @@ impl Target {
         if !self.force {
             self.refuse_what_is_there()?;
             File::create_new(&self.path).map_err(|error| self.lost(&error))?;
+        } else if let Some(seen) = self.seen() {
+            self.keep_permissions(finished, &seen)?;
         }
         fs::rename(finished, &self.path).map_err(|error| {
             if !self.force {
@@ -90,6 +119,16 @@ impl Target {
             }
             self.lost(&error)
         })
+    }
+
+    /// Whoever may read what is overwritten may read what comes in its place, and nobody else. Not every file system knows the
+    /// difference, and where there is none nothing is asked of it.
+    fn keep_permissions(&self, finished: &Path, seen: &Metadata) -> Result<(), Failure> {
+        let new = fs::metadata(finished).map_err(|error| self.lost(&error))?;
+        if new.permissions() == seen.permissions() {
+            return Ok(());
+        }
+        fs::set_permissions(finished, seen.permissions()).map_err(|error| self.lost(&error))
     }
 
     fn refuse_what_is_there(&self) -> Result<(), Failure> {
@@ -119,17 +158,35 @@ impl Target {
 
     fn lost(&self, error: &io::Error) -> Failure {
         match error.kind() {
-            ErrorKind::NotFound => self.stopped("can't be written: there is no such folder"),
+            ErrorKind::NotFound => {
+                self.stopped("can't be written: there is no such folder; make it, or give another")
+            }
             ErrorKind::PermissionDenied => {
                 self.stopped("can't be written: no permission; give another folder")
             }
-            _ => self.stopped(&format!("can't be written: {}", plain(error))),
+            _ => self.stopped(&format!(
+                "can't be written: {}; give another name or folder",
+                plain(error)
+            )),
         }
     }
 
     fn stopped(&self, what: &str) -> Failure {
         Failure::Stopped(format!("{} {what}", self.name))
     }
+}
+
+/// A path with links followed, also where the file isn't there yet.
+fn resolved(path: &Path) -> PathBuf {
+    let in_folder = || {
+        let folder = path
+            .parent()
+            .filter(|folder| !folder.as_os_str().is_empty());
+        let folder = fs::canonicalize(folder.unwrap_or(Path::new("."))).ok()?;
+        Some(folder.join(path.file_name()?))
+    };
+    let whole = fs::canonicalize(path).ok();
+    whole.or_else(in_folder).unwrap_or_else(|| path.to_owned())
 }
 
 /// Waits until the bytes are on the disk, because a full one may tell only then. Not every file system can do that.

@@ -10,6 +10,7 @@ use std::path::{Path, PathBuf};
 use pica::LIST_LENGTH_MOST;
 
 use crate::closed;
+use crate::output::Written;
 use crate::status::{note, plain};
 use crate::text::on_one_line;
 
@@ -54,6 +55,20 @@ impl From<io::Error> for Reason {
         }
     }
 }
+
+/// Why a path can't be read. A link that leads to nothing is there, so that its name needs no check.
+fn unreadable(path: &Path, error: io::Error) -> Reason {
+    let is_link = fs::symlink_metadata(path).is_ok_and(|seen| seen.is_symlink());
+    let leads_nowhere = error.kind() == ErrorKind::NotFound || error.raw_os_error() == Some(ELOOP);
+    if is_link && leads_nowhere {
+        let advice = "mend the link, or name the file itself";
+        return Reason::new("a link that leads to no file", advice);
+    }
+    error.into()
+}
+
+/// Linux's number for links that lead back to themselves.
+const ELOOP: i32 = 40;
 
 /// Something that is read as a list.
 pub struct Entry {
@@ -119,7 +134,9 @@ impl Entry {
     pub fn open(&self) -> Result<File, Reason> {
         let file = match &self.source {
             Source::Never(reason) => return Err(reason.clone()),
-            Source::File => File::open(&self.path)?,
+            Source::File => {
+                File::open(&self.path).map_err(|error| unreadable(&self.path, error))?
+            }
             Source::StandardInput if closed::standard_input() => {
                 return Err(Reason::new(
                     "standard input is closed",
@@ -146,8 +163,8 @@ pub fn single(path: &OsStr) -> Entry {
     Entry::new(path, source)
 }
 
-/// Everything that the paths name, folders taken apart, in order.
-pub fn entries(paths: &[OsString]) -> Vec<Entry> {
+/// Everything that the paths name, folders taken apart, in order. What a folder has of this run's own output isn't read.
+pub fn entries(paths: &[OsString], written: &Written) -> Vec<Entry> {
     let mut found = Vec::new();
     for (k, path) in paths.iter().enumerate() {
         if path == "-" && paths[..k].contains(path) {
@@ -155,7 +172,7 @@ pub fn entries(paths: &[OsString]) -> Vec<Entry> {
             found.push(Entry::new(path, Source::Never(reason)));
         } else if path != "-" && Path::new(path).is_dir() {
             let before = found.len();
-            below(Path::new(path), &mut found);
+            below(Path::new(path), written, &mut found);
             if found.len() == before {
                 note(&format!(
                     "{}: no file in this folder, so nothing is read there",
@@ -171,10 +188,10 @@ pub fn entries(paths: &[OsString]) -> Vec<Entry> {
 
 /// Every file below a folder, in the byte order of the path's parts. A link to a folder isn't followed, so that nothing is met twice
 /// and no walk is endless; what is neither file nor folder isn't opened, because that may wait for ever.
-fn below(folder: &Path, found: &mut Vec<Entry>) {
+fn below(folder: &Path, written: &Written, found: &mut Vec<Entry>) {
     let mut left = vec![folder.to_owned()];
     while let Some(path) = left.pop() {
-        match kind(&path, path == folder) {
+        match kind(&path, path == folder, written) {
             Ok(Kind::File) => found.push(Entry::new(path, Source::File)),
             Ok(Kind::Folder) => match inside(&path) {
                 Ok(paths) => left.extend(paths.into_iter().rev()),
@@ -184,11 +201,18 @@ fn below(folder: &Path, found: &mut Vec<Entry>) {
                 "{}: a link to a folder, not followed",
                 shown(&path)
             )),
+            Ok(Kind::Output) => note(&format!(
+                "{}: this run's own output, not read",
+                shown(&path)
+            )),
             Ok(Kind::Other(what)) => {
                 let reason = Reason::new(what, "name it by itself to read it");
                 found.push(Entry::new(path, Source::Never(reason)));
             }
-            Err(error) => found.push(Entry::new(path, Source::Never(error.into()))),
+            Err(error) => {
+                let reason = unreadable(&path, error);
+                found.push(Entry::new(path, Source::Never(reason)));
+            }
         }
     }
 }
@@ -198,15 +222,18 @@ enum Kind {
     Folder,
     /// To a folder.
     Link,
+    /// Of this run.
+    Output,
     Other(&'static str),
 }
 
-fn kind(path: &Path, named: bool) -> io::Result<Kind> {
+fn kind(path: &Path, named: bool, written: &Written) -> io::Result<Kind> {
     let target = fs::metadata(path)?;
     let linked = fs::symlink_metadata(path)?.is_symlink() && !named;
     Ok(match target.file_type() {
         folder if folder.is_dir() && linked => Kind::Link,
         folder if folder.is_dir() => Kind::Folder,
+        _ if written.has(&target) => Kind::Output,
         file if file.is_file() => Kind::File,
         other => Kind::Other(special(other)),
     })

@@ -1,13 +1,14 @@
 //! `pica judge`: a verdict for each list.
 
-use std::ffi::OsString;
+use std::ffi::{OsStr, OsString};
 use std::io::Write;
+use std::path::Path;
 
-use crate::input::{entries, Entry};
+use crate::input::{entries, shown, Entry};
 use crate::json::{object, Value};
 use crate::lists::{self, List, Problem};
 use crate::options::{parse, wrong, Known};
-use crate::output::Output;
+use crate::output::{Output, Written};
 use crate::status::{note, Failure, Outcome, Status};
 use crate::text::{grouped, on_one_line};
 use crate::{csv, refusals};
@@ -23,9 +24,9 @@ refusal's number, the place of the command at fault (in words and in bytes from 
 what it means and what to do; or `unreadable` and why. A list that sets nothing gets a remark. Of
 several lists it is said at the end, on standard error, how many were accepted.
 
-  --csv    rows of comma-separated values on standard output, the first with the columns' names:
-           path, verdict (ok, refused or unreadable), writes, words, number, place, byte, meaning,
-           what_to_do
+  --csv    rows of comma-separated values on standard output (in UTF-8, with lines that end in
+           CR LF), the first with the columns' names: path, verdict (ok, refused or unreadable),
+           writes, words, number, place, byte, meaning, what_to_do
   --json   the same as one array of objects
 
 Examples
@@ -77,7 +78,10 @@ pub fn run(args: &[OsString], out: &mut Output) -> Outcome {
             "names nothing to judge: give files, folders or -",
         ));
     }
-    let entries = entries(&given.paths);
+    if form != Form::Text {
+        no_targets(&given.paths)?;
+    }
+    let entries = entries(&given.paths, &Written::standard());
     let (status, count) = judge_all(&entries, form, out)?;
     if entries.len() > 1 {
         let Count {
@@ -92,6 +96,23 @@ pub fn run(args: &[OsString], out: &mut Output) -> Outcome {
         ));
     }
     Ok(status)
+}
+
+/// Refuses a path that is rather a file to write, since `pica forecast` has `--csv FILE`.
+fn no_targets(paths: &[OsString]) -> Result<(), Failure> {
+    let is_target = |path: &&OsString| {
+        let path = Path::new(path);
+        let ending = path.extension().and_then(OsStr::to_str);
+        matches!(ending, Some("csv" | "json")) && !path.exists()
+    };
+    let Some(path) = paths.iter().find(is_target) else {
+        return Ok(());
+    };
+    let what = format!(
+        "prints on standard output, and there is no {} to judge: to write that file, put > before its name",
+        shown(path)
+    );
+    Err(wrong("judge", &what))
 }
 
 fn judge_all(entries: &[Entry], form: Form, out: &mut Output) -> Result<(Status, Count), Failure> {
@@ -198,7 +219,7 @@ fn parts(verdict: &Result<List, Problem>) -> Row {
 fn fields(name: &str, verdict: &Result<List, Problem>) -> Vec<String> {
     let (verdict, numbers, texts) = parts(verdict);
     let numbers = numbers.map(|number| number.map_or(String::new(), |number| number.to_string()));
-    [name.to_owned(), verdict.to_owned()]
+    [csv::path(name), verdict.to_owned()]
         .into_iter()
         .chain(numbers)
         .chain(texts)

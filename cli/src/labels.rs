@@ -2,8 +2,10 @@
 
 use crate::text::{on_one_line, shortened};
 
-/// As many letters as there is room for.
+/// The room for a name, in hundredths of a letter's size, and as many letters of the usual width as that holds.
+const ROOM: usize = LETTERS_MOST * USUAL;
 const LETTERS_MOST: usize = 34;
+const USUAL: usize = 56;
 
 /// How much of the start of every name is the same folder: that tells nothing beside the bars.
 pub fn common_folder(names: &[&str]) -> usize {
@@ -20,14 +22,24 @@ pub fn common_folder(names: &[&str]) -> usize {
     slash.map_or(0, |slash| slash + 1)
 }
 
-/// A name that fits, with what is remarkable. Letters beyond the Latin ones may be twice as wide.
+/// How wide a letter is at most, about, in the common fonts without serifs.
+fn wide(letter: char) -> usize {
+    match letter {
+        'm' | 'w' | 'M' => 86,
+        'W' | '@' | '%' => 100,
+        '\u{300}'.. => 2 * USUAL,
+        letter if letter.is_uppercase() => 74,
+        _ => USUAL,
+    }
+}
+
+/// A name that fits, with what is remarkable.
 pub fn label(name: &str, remark: Option<&str>) -> String {
     let name = on_one_line(name);
     let remark = remark.and_then(|remark| remark.split(':').next());
     let end = remark.map_or_else(String::new, |remark| format!(" ({remark})"));
-    let wide = |letter| if letter < '\u{300}' { 1 } else { 2 };
     let width = |text: &str| text.chars().map(wide).sum::<usize>();
-    let fits = |text: &String| width(text) + width(&end) <= LETTERS_MOST;
+    let fits = |text: &String| width(text) + width(&end) <= ROOM;
     let mut shorter = (1..=LETTERS_MOST).rev().map(|most| shortened(&name, most));
     shorter.find(fits).unwrap_or_default() + &end
 }
@@ -43,7 +55,16 @@ mod tests {
             label("a.bin", Some("sets nothing: every word is 0")),
             "a.bin (sets nothing)"
         );
-        assert_eq!(label(&"x".repeat(99), Some("empty")).len(), LETTERS_MOST);
+        assert_eq!(label(&"x".repeat(99), None).len(), LETTERS_MOST);
+        assert_eq!(
+            label(&"x".repeat(99), Some("empty")).len(),
+            LETTERS_MOST - 1
+        );
+        assert_eq!(label(&"W".repeat(99), None).len(), 19);
+        assert_eq!(
+            label("FRAME_CAPTURE_BATTLE_0001.BIN", None),
+            "FRAME_CA..RE_BATTLE_0001.BIN"
+        );
         assert_eq!(label(&"\u{753b}".repeat(99), None).chars().count(), 18);
     }
 

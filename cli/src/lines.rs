@@ -1,6 +1,6 @@
 //! Lines of writes, from a CSV.
 
-use std::io::{self, BufRead, BufReader, Read};
+use std::io::{self, BufRead, BufReader, Read, Take};
 
 use pica::{Write, LIST_LENGTH_MOST};
 
@@ -15,19 +15,23 @@ pub struct Numbered {
     pub line: u64,
 }
 
-/// No line of a write is longer. Of a longer comment the rest is passed over, so that little is kept of any input.
-const LINE_MOST: u64 = 4096;
+/// No line is longer, but for comments, of which the rest is passed over: so little is kept of any input.
+const LINE_MOST: u64 = 1024;
+
+/// Nothing is read past so many bytes: more than the writes of any list take, in lines that are all as long as may be.
+const BYTES_MOST: u64 = LIST_LENGTH_MOST as u64 * (LINE_MOST + 1);
 
 /// The writes of a CSV, or what is wrong with it. Nothing is read past so many writes as no list says.
 pub fn read(file: impl Read) -> Result<Vec<Numbered>, String> {
-    let mut file = BufReader::new(file);
+    let mut file = BufReader::new(file.take(BYTES_MOST + 1));
     let (mut writes, mut bytes, mut is_first) = (Vec::new(), Vec::new(), true);
     for line in 1.. {
         bytes.clear();
-        if next(&mut file, &mut bytes).map_err(unreadable)? == 0 || writes.len() == LIST_LENGTH_MOST
-        {
+        let length = next(&mut file, &mut bytes).map_err(unreadable)?;
+        if length == 0 || is_too_much(&file) || writes.len() == LIST_LENGTH_MOST {
             break;
         }
+        let told = |what: String| format!("line {}: {what}", grouped(line));
         let text = String::from_utf8_lossy(&bytes);
         // some programs begin a file with a mark of the byte order
         let text = if line == 1 {
@@ -36,12 +40,19 @@ pub fn read(file: impl Read) -> Result<Vec<Numbered>, String> {
             &text
         }
         .trim();
-        if text.is_empty() || text.starts_with('#') {
+        if text.starts_with('#') {
             rest(&mut file, &mut bytes).map_err(unreadable)?;
-        } else if !std::mem::take(&mut is_first) || !is_header(text) {
-            let write = write(text).map_err(|what| format!("line {}: {what}", grouped(line)))?;
+        } else if is_cut(&bytes) {
+            return Err(told(too_long(text)));
+        } else if !text.is_empty() && (!std::mem::take(&mut is_first) || !is_header(text)) {
+            let write = write(text).map_err(told)?;
             writes.push(Numbered { write, line });
         }
+    }
+    if is_too_much(&file) {
+        return Err(String::from(
+            "over 64 MB, which the writes of no list take: leave comments and empty lines out",
+        ));
     }
     if is_first {
         return Err(format!(
@@ -51,14 +62,23 @@ pub fn read(file: impl Read) -> Result<Vec<Numbered>, String> {
     Ok(writes)
 }
 
+fn is_too_much(file: &BufReader<Take<impl Read>>) -> bool {
+    file.get_ref().limit() == 0
+}
+
 fn unreadable(error: io::Error) -> String {
     let Reason { why, advice } = error.into();
     format!("unreadable: {why}; {advice}")
 }
 
-/// A line, or the start of a long one.
+/// A line with its end, or the start of a long one.
 fn next(file: &mut impl BufRead, bytes: &mut Vec<u8>) -> io::Result<usize> {
-    file.take(LINE_MOST).read_until(b'\n', bytes)
+    file.take(LINE_MOST + 1).read_until(b'\n', bytes)
+}
+
+/// Whether this is the start of a long line: to go on with its rest would take one line for two.
+fn is_cut(bytes: &[u8]) -> bool {
+    bytes.len() as u64 > LINE_MOST && bytes.last() != Some(&b'\n')
 }
 
 /// Passes over what is left of a line.
@@ -124,6 +144,11 @@ fn number(field: &str) -> Option<Option<u32>> {
 fn expected(text: &str) -> String {
     let found = shortened(&on_one_line(text), 60);
     format!("expected id,mask,value in hexadecimal, as 041,F,00000001, and found `{found}`")
+}
+
+fn too_long(text: &str) -> String {
+    let start = shortened(&on_one_line(text), 40);
+    format!("over 1,024 bytes, and a line is one write, as 041,F,00000001; found `{start}`")
 }
 
 fn too_large(field: &str) -> String {
@@ -194,8 +219,36 @@ mod tests {
             writes(&format!("#{long}\n41,F,1")),
             Ok(vec![(2, [0x41, 15, 1])])
         );
-        assert!(writes(&long).unwrap_err().starts_with("line 1: "));
+        assert!(writes(&long)
+            .unwrap_err()
+            .starts_with("line 1: over 1,024 bytes"));
         // an endless line is read no further
         assert!(read(io::repeat(b'1')).unwrap_err().starts_with("line 1: "));
+        // nor are endless comments and empty lines
+        for endless in [b'#', b'\n'] {
+            assert!(read(io::repeat(endless)).unwrap_err().contains("64 MB"));
+        }
+    }
+
+    /// What is past the start of a long line is no line of its own, nor is it lost.
+    #[test]
+    fn a_long_line_is_never_two_nor_none() {
+        let (most, spaces) = (LINE_MOST as usize, " ".repeat(LINE_MOST as usize));
+        for long in [
+            format!("41,F,1{spaces}\n42,F,2"),
+            format!("41,F,1{spaces}42,F,2"),
+            format!("{spaces}41,F,1"),
+            format!("41,F,{}42,F,2", "0".repeat(most - 5)),
+        ] {
+            let told = writes(&format!("43,F,3\n{long}\n")).unwrap_err();
+            assert!(told.starts_with("line 2: over 1,024 bytes"), "{told}");
+        }
+        let longest = format!("{:most$}\r\n42,F,2", "41,F,1", most = most - 1);
+        let found = [(1, [0x41, 15, 1]), (2, [0x42, 15, 2])];
+        assert_eq!(writes(&longest), Ok(found.to_vec()));
+        assert_eq!(
+            writes(&format!("{:most$}", "41,F,1")),
+            Ok(found[..1].to_vec())
+        );
     }
 }

@@ -48,7 +48,8 @@ pub fn wrong(command: &str, what: &str) -> Failure {
     ))
 }
 
-/// Takes arguments apart. `--` ends the options, `--name=value` and `--name value` are the same, and `-` is a path.
+/// Takes arguments apart. `--` ends the options, `--name=value` and `--name value` are the same, and `-` is a path. An option's name is
+/// no other's value, unless it is joined with =.
 pub fn parse(command: &str, args: &[OsString], known: &[Known]) -> Result<Given, Failure> {
     let mut given = Given::default();
     let mut args = args.iter();
@@ -63,10 +64,10 @@ pub fn parse(command: &str, args: &[OsString], known: &[Known]) -> Result<Given,
             let value = match (takes, joined) {
                 (Some(_), Some(value)) => value,
                 (Some(what), None) => {
-                    let value = args
-                        .next()
-                        .ok_or_else(|| wrong(command, &format!("needs {what} after {name}")))?;
-                    value.clone()
+                    let is_value = |arg: &&OsString| known.iter().all(|(option, _)| arg != option);
+                    let value = args.next().filter(is_value);
+                    let missing = || wrong(command, &format!("needs {what} after {name}"));
+                    value.ok_or_else(missing)?.clone()
                 }
                 (None, Some(_)) => {
                     return Err(wrong(command, &format!("takes no value with {name}")))
@@ -157,6 +158,10 @@ mod tests {
         assert_eq!(given.value("--out"), Some(OsStr::new("--b")));
         assert!(given.has("--force"));
         assert_eq!(
+            parsed(&["--out=--force"]).unwrap().value("--out"),
+            Some(OsStr::new("--force"))
+        );
+        assert_eq!(
             parsed(&["--out=x=y"]).unwrap().value("--out"),
             Some(OsStr::new("x=y"))
         );
@@ -167,6 +172,7 @@ mod tests {
         let told = |args: &[&str]| format!("{:?}", parsed(args).unwrap_err());
         assert!(told(&["--ot", "x"]).contains("did you mean --out?"));
         assert!(told(&["--out"]).contains("needs a file after --out"));
+        assert!(told(&["--out", "--force"]).contains("needs a file after --out"));
         assert!(told(&["--force=1"]).contains("takes no value"));
         assert!(told(&["--out", "x", "--out", "y"]).contains("once"));
         assert!(told(&["-x"]).contains("-- -x"));

@@ -3,9 +3,10 @@
 //! `std::io::stdout` passes over a closed descriptor and over what can't be flushed at the end. So the descriptor is written to as a
 //! file, and each failure comes back.
 
-use std::fs::File;
+use std::fs::{File, Metadata};
 use std::io::{self, BufWriter, ErrorKind, IsTerminal, Write};
-use std::os::fd::AsFd;
+use std::os::fd::{AsFd, BorrowedFd};
+use std::os::unix::fs::MetadataExt;
 
 use crate::closed;
 
@@ -56,5 +57,31 @@ impl Write for Output {
 
     fn flush(&mut self) -> io::Result<()> {
         self.open()?.flush()
+    }
+}
+
+/// The files that a run writes to, by device and number. Where a folder has one of them it is no list of that folder's.
+#[derive(Default)]
+pub struct Written(Vec<(u64, u64)>);
+
+impl Written {
+    /// Standard output and standard error, where they go to files.
+    pub fn standard() -> Self {
+        let seen = |stream: BorrowedFd| File::from(stream.try_clone_to_owned()?).metadata();
+        let mut written = Self::default();
+        let seen = [seen(io::stdout().as_fd()), seen(io::stderr().as_fd())];
+        seen.iter().flatten().for_each(|seen| written.add(seen));
+        written
+    }
+
+    /// Adds what is a file.
+    pub fn add(&mut self, seen: &Metadata) {
+        if seen.is_file() {
+            self.0.push((seen.dev(), seen.ino()));
+        }
+    }
+
+    pub fn has(&self, seen: &Metadata) -> bool {
+        self.0.contains(&(seen.dev(), seen.ino()))
     }
 }

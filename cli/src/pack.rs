@@ -26,8 +26,8 @@ upper or lower case, with 0x before or h after a number if you like, spaces arou
 id,mask,value may stand first; empty lines and lines that begin with # are passed over. Any other
 line ends the work, and is told by its number.
 
-Over 4,096 writes are packed in parts that are joined; by how many words that may be over the
-shortest is said on standard error.
+Over 4,096 writes are packed in parts that are joined. Where that may cost something it is said on
+standard error how many words at most; where nothing is said the list is the shortest.
 
   --out FILE.bin   the file to write; without it the list goes to standard output, unless that is
                    a terminal
@@ -47,6 +47,9 @@ pub fn run(args: &[OsString], out: &mut Output) -> Outcome {
         .value("--out")
         .map(|to| Target::new(to, given.has("--force")))
         .transpose()?;
+    if let Some(target) = &target {
+        target.spare("pack", path)?;
+    }
     if target.is_none() && out.is_terminal() {
         return Err(wrong(
             "pack",
@@ -73,7 +76,7 @@ pub fn run(args: &[OsString], out: &mut Output) -> Outcome {
     Ok(Status::Well)
 }
 
-/// The list, or why it is refused. Of parts it is said that they are parts.
+/// The list, or why it is refused. Where it may be over the shortest that is said.
 fn packed(writes: &[Numbered]) -> Result<Vec<u32>, String> {
     let too_long = |what: &str| {
         let number = Refusal::LIST_TOO_LONG;
@@ -91,17 +94,16 @@ fn packed(writes: &[Numbered]) -> Result<Vec<u32>, String> {
             .map(|numbered| numbered.write)
             .collect::<Vec<_>>(),
     );
-    let (list, parts) = run.packed().map_err(|refusal| refused(refusal, writes))?;
+    let (list, over) = run.packed().map_err(|refusal| refused(refusal, writes))?;
     let words = grouped(list.len() as u64);
     if list.len() > LIST_LENGTH_MOST {
         return Err(too_long(&format!(
             "the list has {words} words, and 65,536 is the most"
         )));
     }
-    if parts > 1 {
-        let over = 2 * (parts - 1);
+    if over > 0 {
         note(&format!(
-            "over 4,096 writes, packed in {parts} parts: {words} words, at most {over} more than the shortest list"
+            "over 4,096 writes, packed in parts: {words} words, at most {over} more than the shortest list"
         ));
     }
     Ok(list)

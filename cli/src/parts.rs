@@ -11,8 +11,13 @@ pub struct Run {
     values: Vec<u32>,
 }
 
-/// The fewest words that say a run: at least and at most so many. The two are equal for at most 4,096 writes, and for more where each
-/// seam stands between two writes that no command carries both.
+/// Where a run goes on for long as one that a command could carry, it is cut after so many writes: after sixteen commands of 255, which
+/// take 256 words each and so the fewest a write; or after as many as can be packed. Each gives bounds, and of one register's writes
+/// the first is seldom too long and the second seldom too short.
+const UNBROKEN: [usize; 2] = [RUN_LENGTH_MOST / 255 * 255, RUN_LENGTH_MOST];
+
+/// The fewest words that say a run: at least and at most so many. The two are equal for at most 4,096 writes, for more where each seam
+/// stands between two writes that no command carries both, and wherever the bounds of two ways to cut meet.
 #[derive(Clone, Copy, Debug, Default, PartialEq, Eq)]
 pub struct Shortest {
     pub least: u64,
@@ -29,8 +34,8 @@ impl Run {
     }
 
     /// The parts. Any cut is right; between two writes that no command carries both it costs nothing, so that each part ends at the
-    /// last such place, and only where there is none with as many writes as may be.
-    pub fn parts(&self) -> Vec<Range<usize>> {
+    /// last such place, and only where there is none after so many writes as are said.
+    fn parts(&self, unbroken: usize) -> Vec<Range<usize>> {
         let length = self.ids.len();
         let (mut parts, mut start) = (Vec::new(), 0);
         while length - start > RUN_LENGTH_MOST {
@@ -38,7 +43,7 @@ impl Run {
             let end = (start + 1..=last)
                 .rev()
                 .find(|&cut| self.is_apart(cut))
-                .unwrap_or(last);
+                .unwrap_or(start + unbroken);
             parts.push(start..end);
             start = end;
         }
@@ -76,33 +81,48 @@ impl Run {
         })
     }
 
-    /// The bounds on the shortest list of a run that a list of so many words says: at most the sum of its parts, and at most that list;
-    /// at least the sum less two words for each seam that a command may go across.
+    /// The bounds on the shortest list of a run that a list of so many words says. However it is cut: at most the sum of its parts, and
+    /// at most that list; at least the sum less two words for each seam that a command may go across.
     pub fn shortest(&self, own: u64) -> Result<Shortest, Refusal> {
-        let parts = self.parts();
-        let words = parts
-            .iter()
-            .map(|part| self.words_of(part))
-            .sum::<Result<u64, Refusal>>()?;
-        let seams = parts.iter().skip(1).map(|part| part.start);
-        let loose = seams.filter(|&cut| !self.is_apart(cut)).count() as u64;
-        let (least, most) = (words.saturating_sub(2 * loose), words.min(own));
-        Ok(Shortest {
-            least: least.min(most),
-            most,
-        })
+        let (mut least, mut most) = (0, own);
+        for unbroken in UNBROKEN {
+            let parts = self.parts(unbroken);
+            let words = parts.iter().map(|part| self.words_of(part));
+            let words = words.sum::<Result<u64, Refusal>>()?;
+            let loose = self.loose(&parts);
+            (least, most) = (least.max(words - 2 * loose), most.min(words));
+            if loose == 0 {
+                break;
+            }
+        }
+        Ok(Shortest { least, most })
     }
 
-    /// The parts' shortest lists, joined, and how many there are.
-    pub fn packed(&self) -> Result<(Vec<u32>, usize), Refusal> {
-        let (parts, mut list) = (self.parts(), Vec::new());
-        for part in &parts {
+    /// How many seams there are that a command may go across. A part has two words at least, so that their sum has two for each.
+    fn loose(&self, parts: &[Range<usize>]) -> u64 {
+        let seams = parts.iter().skip(1).map(|part| part.start);
+        seams.filter(|&cut| !self.is_apart(cut)).count() as u64
+    }
+
+    /// The parts' shortest lists, joined, by the way to cut that gives the shorter one, and by how many words that may be over the
+    /// shortest list.
+    pub fn packed(&self) -> Result<(Vec<u32>, u64), Refusal> {
+        let [one, other] = UNBROKEN.map(|unbroken| self.joined(&self.parts(unbroken)));
+        let (one, other) = (one?, other?);
+        let list = if other.len() < one.len() { other } else { one };
+        let words = list.len() as u64;
+        Ok((list, words - self.shortest(words)?.least))
+    }
+
+    fn joined(&self, parts: &[Range<usize>]) -> Result<Vec<u32>, Refusal> {
+        let mut list = Vec::new();
+        for part in parts {
             let start = list.len();
             list.resize(start + 2 * part.len(), 0); // a list is never longer than two words a write
             let words = self.pack(part, &mut list[start..])?;
             list.truncate(start + words);
         }
-        Ok((list, parts.len()))
+        Ok(list)
     }
 }
 
@@ -122,17 +142,27 @@ mod tests {
     }
 
     fn ends(run: &Run) -> Vec<usize> {
-        run.parts().iter().map(|part| part.end).collect()
+        run.parts(RUN_LENGTH_MOST)
+            .iter()
+            .map(|part| part.end)
+            .collect()
+    }
+
+    /// The bounds, whatever list says the run.
+    fn bounds(run: &Run) -> (u64, u64) {
+        let Ok(Shortest { least, most }) = run.shortest(u64::MAX) else {
+            panic!("allowed writes are packed");
+        };
+        let (list, over) = run.packed().unwrap();
+        assert_eq!((list.len() as u64, over), (most, most - least));
+        (least, most)
     }
 
     #[test]
     fn a_short_run_is_one_part_and_exact() {
         assert_eq!(ends(&run(0..0)), [0]);
-        assert_eq!(run(0..0).shortest(0), Ok(Shortest { least: 0, most: 0 }));
-        assert_eq!(
-            run([0x41, 0x41, 0x42].into_iter()).shortest(99),
-            Ok(Shortest { least: 6, most: 6 })
-        );
+        assert_eq!(bounds(&run(0..0)), (0, 0));
+        assert_eq!(bounds(&run([0x41, 0x41, 0x42].into_iter())), (6, 6));
         assert_eq!(ends(&run((0..4096).map(|_| 0x41))), [4096]);
     }
 
@@ -141,13 +171,7 @@ mod tests {
         // 2, 2, 2, 4, 4, 4 and so on: a command carries three, so that every third place is a seam that costs nothing
         let long = run((0..4098).map(|k| if k / 3 % 2 == 0 { 2 } else { 4 }));
         assert_eq!(ends(&long), [4095, 4098]);
-        assert_eq!(
-            long.shortest(u64::MAX),
-            Ok(Shortest {
-                least: 1366 * 4,
-                most: 1366 * 4
-            })
-        );
+        assert_eq!(bounds(&long), (1366 * 4, 1366 * 4));
         // a part more costs nothing
         assert_eq!(
             ends(&run((0..8192).map(|k| if k / 3 % 2 == 0 { 2 } else { 4 }))),
@@ -156,29 +180,33 @@ mod tests {
         // far from the limit too: 4,000 writes to 2, and then 4,000 to 4
         let two = run((0..8000).map(|k| if k < 4000 { 2 } else { 4 }));
         assert_eq!(ends(&two), [4000, 8000]);
-        let Ok(Shortest { least, most }) = two.shortest(u64::MAX) else {
-            panic!("allowed writes are packed");
-        };
+        let (least, most) = bounds(&two);
         assert_eq!(least, most);
-        // one id all along can be cut nowhere without loss: commands of 255 writes take 256 words, so that the first part takes
-        // 16 of them and 18 words for 16 writes, the second 4 words; in one list the last 18 writes take 20 words
+    }
+
+    /// One id all along. Cut after 4,080 writes, 16 commands of 255 take 256 words each, as they do in one list, and the last 18 writes
+    /// take 20; cut after 4,096, the first part takes 18 words more and the second 4, which is at most two words too many.
+    #[test]
+    fn of_two_ways_to_cut_the_better_bounds_count() {
         let same = run((0..4098).map(|_| 0x41));
         assert_eq!(ends(&same), [4096, 4098]);
-        let whole = 16 * 256 + 20;
-        assert_eq!(
-            same.shortest(u64::MAX),
-            Ok(Shortest {
-                least: whole,
-                most: whole + 2
-            })
-        );
-        assert_eq!(
-            same.shortest(whole),
-            Ok(Shortest {
-                least: whole,
-                most: whole
-            })
-        );
+        assert_eq!(bounds(&same), (16 * 256 + 20, 16 * 256 + 20));
+        // each id thirteen times: here the second way is the shorter by two words, and the first gives the bound
+        let steps = run((0..4099).map(|k| 0x40 + k / 13));
+        assert_eq!(bounds(&steps), (4416, 4416));
+        // as many as a list can say, which has them in 256 commands of 256 words
+        let longest = run((0..65_280).map(|_| 0x41));
+        assert_eq!(bounds(&longest), (65_536, 65_536));
+    }
+
+    /// Each id eleven times, and then the next: a command may go on from any write to the one after it, and the bounds stay apart,
+    /// unless the list that says the run is as short as the lower one. All three numbers are by a search over every way to say the run.
+    #[test]
+    fn where_the_cuts_may_cost_there_are_bounds() {
+        let steps = run((0..4100).map(|k| 0x40 + k / 11));
+        assert_eq!(bounds(&steps), (4474, 4476));
+        let (least, most) = (4474, 4474);
+        assert_eq!(steps.shortest(4474), Ok(Shortest { least, most }));
     }
 
     #[test]

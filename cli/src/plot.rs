@@ -10,6 +10,9 @@ use crate::text::{grouped, percent};
 /// More lists than these make no picture that can be read.
 const BARS_MOST: usize = 40;
 
+/// A longer summary is set smaller, so that it fits.
+const SUMMARY_MOST: usize = 140;
+
 const WIDTH: f64 = 860.0;
 /// Where bars begin, and the longest ends; their names stand left of it and their lengths right.
 const BARS: (f64, f64) = (230.0, 700.0);
@@ -77,7 +80,9 @@ fn chosen(rows: &[Row]) -> (Vec<(String, Figures)>, Totals) {
 
 fn heading(picture: &mut Picture, totals: &Totals, drawn: &[(String, Figures)]) {
     picture.text((20.0, 32.0), TITLE, title());
-    picture.text((20.0, 52.0), PLAIN, &summary(totals));
+    let summary = summary(totals);
+    let is_long = summary.chars().count() > SUMMARY_MOST;
+    picture.text((20.0, 52.0), if is_long { VALUE } else { PLAIN }, &summary);
     let mut legend = vec![(CAPTURED, "captured"), (SHORTEST, "shortest")];
     if drawn.iter().any(|(_, figures)| figures.is_bounded()) {
         legend.push((BETWEEN, "shortest, between at least and at most"));
@@ -97,11 +102,12 @@ fn summary(totals: &Totals) -> String {
         .left_out()
         .map_or_else(String::new, |what| format!(", {what}"));
     format!(
-        "{} list{plural}{left_out}: {} words captured, {} at the shortest, {} saved ({} %)",
+        "{} list{plural}{left_out}: {} words captured, {} at the shortest, {} saved ({}{} %)",
         grouped(totals.lists),
         grouped(sum.words),
         between(sum.shortest.least, sum.shortest.most),
         between(sum.saved().least, sum.saved().most),
+        if sum.is_bounded() { "at least " } else { "" },
         percent(sum.saved().least, sum.words),
     )
 }
@@ -133,7 +139,8 @@ fn bars(picture: &mut Picture, y: f64, figures: &Figures, end: u64) {
     let mut value = between(shortest.least, shortest.most);
     let saved = figures.saved().least;
     if saved > 0 {
-        value += &format!(" (\u{2212}{} %)", percent(saved, words));
+        let more = if figures.is_bounded() { " or more" } else { "" };
+        value += &format!(" (\u{2212}{} %{more})", percent(saved, words));
     }
     picture.text(
         (x + long(shortest.most) + 5.0, y + BAR - 1.0),
@@ -188,7 +195,9 @@ fn foot(picture: &mut Picture, y: f64, others: &Totals, all: &Totals, rate: Opti
         picture.line((20.0, y - 8.0), (WIDTH - 20.0, y - 8.0), GRID);
         picture.text((x, y + BAR + 1.0), TOTAL, &name);
         picture.text((x, y + BAR + 13.0), BELOW, "in a scale of its own");
-        bars(picture, y + 3.0, &all.sum, all.sum.words.max(1));
+        // not as long as may be: what stands right of them may have many digits
+        let end = all.sum.words + all.sum.words / 4;
+        bars(picture, y + 3.0, &all.sum, end.max(1));
         y += 48.0;
     }
     if let Some(rate) = rate {
@@ -216,6 +225,32 @@ fn not_drawn(others: &Totals) -> String {
 #[cfg(test)]
 mod tests {
     use super::*;
+
+    /// The largest sums that there can be of a hundred thousand lists, at about five units a letter.
+    #[test]
+    fn large_sums_fit() {
+        let mut totals = Totals {
+            lists: 100_000,
+            refused: 1000,
+            unreadable: 1000,
+            ..Totals::default()
+        };
+        (totals.sum.words, totals.sum.shortest.most) = (6_553_600_000, 6_553_500_000);
+        totals.sum.shortest.least = 6_553_400_000;
+        let size = |picture: &str| {
+            let mut lines = picture.lines().filter(|line| line.contains("<text"));
+            let summary = lines.find(|line| line.contains(" words captured, "));
+            summary
+                .and_then(|line| line.split('"').nth(5))
+                .map(str::to_owned)
+        };
+        let large = picture(&[], &totals, None);
+        assert_eq!(size(&large).as_deref(), Some("9"));
+        // the total's bars end where there is room for their numbers
+        assert!(large.contains("width=\"376.00\""));
+        (totals.refused, totals.unreadable) = (0, 0);
+        assert_eq!(size(&picture(&[], &totals, None)).as_deref(), Some("11"));
+    }
 
     #[test]
     fn ticks_are_round() {

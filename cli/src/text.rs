@@ -33,11 +33,13 @@ pub fn shortened(name: &str, most: usize) -> String {
     head.iter().chain(&['.', '.']).chain(tail).collect()
 }
 
-/// Control characters escaped: a name with a line's end in it can't pass for two, nor can one steer a terminal.
+/// Control characters escaped, and those that turn the direction of writing or break a line: a name with a line's end in it can't pass
+/// for two, nor can one steer a terminal, nor turn what stands after it.
 pub fn on_one_line(text: &str) -> String {
     let mut line = String::with_capacity(text.len());
     for letter in text.chars() {
-        if letter.is_control() {
+        let turns = matches!(letter, '\u{200E}' | '\u{200F}' | '\u{2028}'..='\u{202E}' | '\u{2066}'..='\u{2069}' | '\u{FEFF}');
+        if turns || letter.is_control() {
             line.extend(letter.escape_default());
         } else {
             line.push(letter);
@@ -64,6 +66,18 @@ mod tests {
             (String::from("0.0"), String::from("100.0"))
         );
         assert_eq!(percent(u64::MAX, u64::MAX), "100.0");
+    }
+
+    #[test]
+    fn no_letter_steers() {
+        assert_eq!(
+            on_one_line("a\n\u{1b}[1m\u{202E}b\u{2028}"),
+            "a\\n\\u{1b}[1m\\u{202e}b\\u{2028}"
+        );
+        assert_eq!(
+            on_one_line("Gr\u{f6}\u{df}e u\u{308} \u{753b}"),
+            "Gr\u{f6}\u{df}e u\u{308} \u{753b}"
+        );
     }
 
     #[test]

@@ -43,6 +43,9 @@ pub fn run(args: &[OsString], out: &mut Output) -> Outcome {
         .value("--out")
         .map(|to| Target::new(to, given.has("--force")))
         .transpose()?;
+    if let Some(target) = &target {
+        target.spare("writes", path)?;
+    }
     let list = match lists::load(&single(path)) {
         Ok(list) => list,
         Err(problem) => {

@@ -80,42 +80,36 @@ fn what_is_left_out_is_said() {
     assert!(!ran.out.contains("replayed"));
 }
 
-/// One id 4,098 times: commands of 255 writes take 256 words, so that the shortest has 16 of them and 20 words for the last 18 writes.
-/// Packed in two parts it is 4,114 words for the first 4,096 writes and 4 for the last two.
+/// 4,100 writes, each id eleven times and then the next, in commands of their own: no cut is sure to cost nothing. That the shortest
+/// list has 4,474 words is by a search over every way to say the run.
+fn steps() -> Vec<u32> {
+    apart((0..4100).map(|k| 0x40 + k / 11))
+}
+
 #[test]
 fn over_4096_writes_there_are_bounds() {
     let folder = Folder::new("forecast-bounds");
-    folder.list("apart", &apart([0x41; 4098]));
+    folder.list("steps", &steps());
     let ran = forecast(&folder, &["--rate", "1"]);
-    let expected = "8,196 4,098 4,118 4,078 49.8 % shortest at least 4,116, at most 4,118";
-    assert_eq!(figures(&ran.out, "/apart"), expected);
+    let expected = "8,200 4,100 4,476 3,724 45.4 % shortest at least 4,474, at most 4,476";
+    assert_eq!(figures(&ran.out, "/steps"), expected);
     let times = "
-  captured  2 h 16 min 36 s
-  shortest  at least 1 h 08 min 36 s, at most 1 h 08 min 38 s
-  saved     at least 1 h 07 min 58 s, at most 1 h 08 min 00 s
+  captured  2 h 16 min 40 s
+  shortest  at least 1 h 14 min 34 s, at most 1 h 14 min 36 s
+  saved     at least 1 h 02 min 04 s, at most 1 h 02 min 06 s
 ";
     assert!(ran.out.ends_with(times), "{}", ran.out);
 }
 
-/// A command of so many writes to register 41.
-fn command_of(writes: u32) -> Vec<u32> {
-    let mut words = vec![7, (writes - 1) << 20 | 0x000F_0041];
-    words.extend(vec![7; writes as usize - 1]);
-    words.extend(vec![0; words.len() % 2]);
-    words
-}
-
+/// One id 4,098 times: commands of 255 writes take 256 words, so that the shortest has 16 of them and 20 words for the last 18 writes.
 #[test]
-fn a_list_as_short_as_the_lower_bound_is_the_shortest() {
+fn where_the_bounds_meet_one_number_is_told() {
     let folder = Folder::new("forecast-equal");
-    let mut shortest = command_of(255).repeat(16);
-    shortest.extend(command_of(18));
-    assert_eq!(shortest.len(), 4116);
-    folder.list("short", &shortest);
-    folder.list("apart", &apart([0x41; 4098]));
+    folder.list("same", &apart([0x41; 4098]));
+    folder.list("steps", &steps());
     let ran = forecast(&folder, &[]);
-    assert_eq!(figures(&ran.out, "/short"), "4,116 4,098 4,116 0 0.0 %");
-    let total = "12,312 8,196 8,234 4,078 33.1 % shortest at least 8,232, at most 8,234";
+    assert_eq!(figures(&ran.out, "/same"), "8,196 4,098 4,116 4,080 49.8 %");
+    let total = "16,396 8,198 8,592 7,804 47.6 % shortest at least 8,590, at most 8,592";
     assert_eq!(figures(&ran.out, "total of 2 lists"), total);
 }
 
@@ -126,7 +120,7 @@ const COLUMNS: &str = "path verdict words writes shortest_at_least shortest_at_m
 fn the_csv_has_a_row_for_each_list() {
     let (folder, out) = (by_hand("forecast-csv"), Folder::new("forecast-csv-out"));
     folder.list("jump", &[1, 0x000F_023C]);
-    folder.list("long", &apart([0x41; 4098]));
+    folder.list("long", &steps());
     let path = out.path("figures.csv");
     let path = path.to_str().unwrap();
     assert_eq!(
@@ -137,7 +131,7 @@ fn the_csv_has_a_row_for_each_list() {
     assert_eq!(rows[0], split(COLUMNS));
     assert_eq!(rows[1][1], "refused");
     assert!(rows[1][2..11].iter().all(String::is_empty) && rows[1][11].contains("jump register"));
-    let long = "ok 8196 4098 4116 4118 4078 4080 2049.000000 1029.000000 1029.500000";
+    let long = "ok 8200 4100 4474 4476 3724 3726 2050.000000 1118.500000 1119.000000";
     assert_eq!(rows[2][1..11], split(long));
     let rising = "ok 6 3 4 4 2 2 1.500000 1.000000 1.000000";
     assert_eq!(rows[4][1..11], split(rising));
@@ -153,7 +147,7 @@ fn the_csv_has_a_row_for_each_list() {
 #[test]
 fn the_picture_is_well_formed_and_has_the_figures() {
     let folder = by_hand("forecast-plot");
-    folder.list("long&<odd>\u{1b}\u{FFFF}\"", &apart([0x41; 4098]));
+    folder.list("long&<odd>\u{1b}\u{FFFF}\"", &steps());
     folder.list("jump", &[1, 0x000F_023C]);
     let out = Folder::new("forecast-plot-out");
     let path = out.path("figures.svg");
@@ -162,7 +156,7 @@ fn the_picture_is_well_formed_and_has_the_figures() {
         &["--plot", path.to_str().unwrap(), "--rate", "1000"],
     );
     let texts = xml(&fs::read_to_string(path).unwrap());
-    let sum = "4 lists, without 1 refused: 8,720 words captured, 4,384 to 4,386 at the shortest, 4,334 to 4,336 saved (49.7 %)";
+    let sum = "4 lists, without 1 refused: 8,724 words captured, 4,742 to 4,744 at the shortest, 3,980 to 3,982 saved (at least 45.6 %)";
     let expected = [
         sum,
         "captured",
@@ -171,12 +165,12 @@ fn the_picture_is_well_formed_and_has_the_figures() {
         "rising",
         "4 (\u{2212}33.3 %)",
         "pair",
-        "4,116 to 4,118 (\u{2212}49.8 %)",
+        "4,474 to 4,476 (\u{2212}45.4 % or more)",
         "long&<odd>\\u{1b}\u{FFFD}\"",
         "10,000",
         "total of 4 lists",
         "Replayed at 1,000 words a second",
-        "captured: 0 h 00 min 08.720 s; shortest: at least 0 h 00 min 04.384 s, at most 0 h 00 min 04.386 s",
+        "captured: 0 h 00 min 08.724 s; shortest: at least 0 h 00 min 04.742 s, at most 0 h 00 min 04.744 s",
     ];
     for text in expected {
         assert!(

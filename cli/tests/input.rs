@@ -7,8 +7,6 @@ use std::fs::{self, File};
 use std::io::Write;
 use std::os::unix::ffi::OsStrExt;
 use std::os::unix::fs::symlink;
-use std::os::unix::net::UnixListener;
-use std::path::Path;
 use std::process::{Command, Stdio};
 use std::time::{Duration, Instant};
 
@@ -73,12 +71,12 @@ fn what_is_no_file_in_a_folder_is_told_and_never_opened() {
         .status()
         .unwrap();
     assert!(made.success());
-    let _socket = bound(&folder);
+    let _socket = folder.socket("socket");
     let ran = pica(&[OsStr::new("judge"), folder.0.as_os_str()]);
     let expected = [
         "a: ok, 1 write, 2 words",
         "link: ok, 1 write, 2 words",
-        "lost: unreadable: there is no such file; check its name",
+        "lost: unreadable: a link that leads to no file; mend the link, or name the file itself",
         "pipe: unreadable: a pipe and no file; name it by itself to read it",
         "socket: unreadable: a socket and no file; name it by itself to read it",
         "zero: unreadable: a device and no file; name it by itself to read it",
@@ -90,19 +88,6 @@ fn what_is_no_file_in_a_folder_is_told_and_never_opened() {
         "{}",
         ran.err
     );
-}
-
-/// A socket's path may not be long, so that it is bound by a short one.
-fn bound(folder: &Folder) -> UnixListener {
-    let short = Path::new("/proc/self/fd")
-        .join(open_folder(folder))
-        .join("socket");
-    UnixListener::bind(short).unwrap()
-}
-
-fn open_folder(folder: &Folder) -> String {
-    use std::os::fd::IntoRawFd;
-    File::open(&folder.0).unwrap().into_raw_fd().to_string()
 }
 
 #[test]

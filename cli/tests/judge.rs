@@ -2,6 +2,8 @@
 
 mod common;
 
+use std::ffi::OsStr;
+
 use common::check::{csv, json, Json};
 use common::{apart, bytes_of, example, pica, pica_fed, Folder, Random};
 
@@ -166,6 +168,24 @@ fn csv_has_a_row_for_each() {
     assert_eq!(rows[3][1..8], ["refused", "", "", "1", "0", "", long]);
     let seven = "ends within a word (7 bytes)";
     assert_eq!(rows[4][1..8], ["unreadable", "", "", "", "", "", seven]);
+}
+
+#[test]
+fn a_file_to_write_is_no_list_to_judge() {
+    let folder = verdicts("judge-target");
+    let target = folder.path("out.csv");
+    let args = [
+        OsStr::new("judge"),
+        folder.0.as_os_str(),
+        OsStr::new("--csv"),
+        target.as_os_str(),
+    ];
+    let ran = pica(&args);
+    assert_eq!((ran.status, ran.out.as_str()), (Some(2), ""));
+    assert!(ran.err.contains("put > before its name"), "{}", ran.err);
+    // what is there is judged
+    folder.list("out.csv", &[1, 0x000F_0041]);
+    assert!(pica(&args).out.contains("out.csv,ok,1,2,"));
 }
 
 #[test]

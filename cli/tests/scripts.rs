@@ -202,6 +202,25 @@ fn judge_tells_each_file_and_the_worst_by_its_status() {
     let second = run(&folder, "judge", &[&refused, &good]);
     assert_eq!((second.status.code(), err(&second).as_str()), (Some(1), ""));
     assert_eq!(run(&folder, "judge", &[&good]).status.code(), Some(0));
+    let whole = folder.0.display().to_string();
+    let third = run(&folder, "judge", &[&whole, &good]);
+    let told = format!("{whole}: unreadable: Is a directory\n{good}: ok 8\n");
+    assert_eq!((third.status.code(), out(&third)), (Some(2), told));
+}
+
+#[test]
+fn judges_help_that_is_lost_is_told_by_the_status() {
+    let folder = repository("scripts-judge-help", "judge");
+    for (file, status) in [("/dev/full", 2), ("/dev/null", 0)] {
+        let to = fs::OpenOptions::new().write(true).open(file).unwrap();
+        let mut command = Command::new(folder.path("judge"));
+        let ended = command
+            .arg("--help")
+            .env("PATH", folder.path("bin"))
+            .stdout(to)
+            .output();
+        assert_eq!(ended.unwrap().status.code(), Some(status), "{file}");
+    }
 }
 
 #[cfg(target_arch = "x86_64")]

@@ -81,9 +81,24 @@ fn a_list_goes_there_and_back() {
         let ids: Vec<u32> = (0..length).map(|_| 0x40 + random.below(3) as u32).collect();
         assert_eq!(round_trip(&folder, &folder.list("random", &apart(ids))), "");
     }
-    let told = round_trip(&folder, &folder.list("long", &apart([0x41; 9000])));
-    // two parts of 4,096 with 4,114 words each, and 808 writes: three commands of 255 with 256 words, and 43 writes in 44
-    assert_eq!(told, "pica: over 4,096 writes, packed in 3 parts: 9,040 words, at most 4 more than the shortest list\n");
+    // over 4,096 writes: what may be over the shortest is said, and nothing where it is the shortest
+    for ids in [[0x41; 3], [0x41, 0x43, 0x45]] {
+        let long = ids.into_iter().cycle().take(9000);
+        assert_eq!(round_trip(&folder, &folder.list("long", &apart(long))), "");
+    }
+    let steps = apart((0..4100).map(|k| 0x40 + k / 11));
+    let told = "pica: over 4,096 writes, packed in parts: 4,476 words, at most 2 more than the shortest list\n";
+    assert_eq!(round_trip(&folder, &folder.list("steps", &steps)), told);
+}
+
+/// The longest list of writes to one register is packed into no more words than it has.
+#[test]
+fn the_longest_list_goes_there_and_back() {
+    let folder = Folder::new("writes-longest");
+    let mut command = vec![7; 256];
+    command[1] = 254 << 20 | 0x000F_0041;
+    let path = folder.list("longest", &command.repeat(256));
+    assert_eq!(round_trip(&folder, &path), "");
 }
 
 #[test]

@@ -7,6 +7,8 @@ pub mod check;
 use std::ffi::OsStr;
 use std::fs;
 use std::io::Write;
+use std::os::fd::AsRawFd;
+use std::os::unix::net::UnixListener;
 use std::path::{Path, PathBuf};
 use std::process::{Command, Stdio};
 
@@ -102,6 +104,15 @@ impl Folder {
     /// A list.
     pub fn list(&self, name: impl AsRef<Path>, words: &[u32]) -> PathBuf {
         self.bytes(name, &bytes_of(words))
+    }
+}
+
+impl Folder {
+    /// A socket. Its path may not be long, so that it is bound by a short one.
+    pub fn socket(&self, name: &str) -> UnixListener {
+        let open = fs::File::open(&self.0).expect("the folder is there");
+        let short = format!("/proc/self/fd/{}/{name}", open.as_raw_fd());
+        UnixListener::bind(short).expect("a socket for the test")
     }
 }
 
