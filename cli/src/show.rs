@@ -44,7 +44,9 @@ and not held, with the last value written. Names are those of the documents; ids
   --json       one array of objects, one for each field, entry and register that isn't held: its
                bits as value, what they stand for as meaning, and the same of what was before
 
-A list that leaves a code without a name in a register is shown too, and the exit status is then 1.
+viewport_width and height are half the size, and scissor_dim is the last corner, as registers 41, 43
+and 67 have them. A list that leaves a code that decoding refuses, by 13, is shown too, and the exit
+status is then 1.
 
 Examples
   pica show examples/triangle-state.bin

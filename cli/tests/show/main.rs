@@ -116,7 +116,7 @@ fn numbers_by_their_kind() {
             "* viewport_xy_y 1FF 511 was 0",
             "* update_unknown 3 3 was 0",
             "* tests_stencil_reference C8 200 was 0",
-            "* buffers_colour_reading 7 no name was 0, Disable",
+            "* buffers_colour_reading 7 Same as F? was 0, Disable",
         ],
     );
 }
