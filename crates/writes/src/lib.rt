@@ -3,26 +3,20 @@
 ghost use mathlib.Core.Path.{_≡_};
 ghost use mathlib.Core.Bool.{true};
 ghost use mathlib.Core.List.{_++_};
-ghost use Prim.Native.Nat.{_+_, _≤_};
+ghost use Prim.Native.Nat.{_≤_};
 ghost use lib.ListN.{length, drop};
-ghost use lib.Seq.{paste};
-ghost use Rattle.words.specs.Header.{countOf, wordsOf};
 ghost use Rattle.words.specs.Writes.{idsIn, masksIn, valuesIn};
-ghost use Rattle.words.specs.Commands.{headerAt, expand, expansion, wellFormed};
+ghost use Rattle.words.specs.Commands.{expansion, wellFormed};
 ghost use Rattle.reader.specs.Read.{told};
 ghost use Rattle.writes.specs.Listed.{writesAnswer, writesIds, writesMasks, writesValues};
+ghost use Rattle.writes.specs.Rows.{CommandFits, withRow};
 use reader::ListVerdict;
 use words::Refusal;
 
 // The ids of the writes of the command at `at`, into the places from `k` on.
 fn put_ids(list: &[u32], at: usize, ids: &mut [u32], k: usize)
-    requires { ⌜
-        (at + wordsOf (headerAt (now list) at) ≤ length (now list)) × (k + (countOf (headerAt (now list) at) + 1) ≤ length (now ids))
-        ⌝ }
-    ensures { λ _. ⌜
-        now (ids .exit)
-        ≡ paste (now (ids .entry)) k (idsIn (expand (now (list .entry)) at)) (countOf (headerAt (now (list .entry)) at) + 1)
-        ⌝ }
+    requires { ⌜ CommandFits (now list) at (now ids) k ⌝ }
+    ensures { λ _. ⌜ now (ids .exit) ≡ withRow idsIn (now (list .entry)) at (now (ids .entry)) k ⌝ }
 {
     let h = words::parts(list[at + 1]);
     let step = h.step;
@@ -38,13 +32,8 @@ fn put_ids(list: &[u32], at: usize, ids: &mut [u32], k: usize)
 
 // Their masks.
 fn put_masks(list: &[u32], at: usize, masks: &mut [u32], k: usize)
-    requires { ⌜
-        (at + wordsOf (headerAt (now list) at) ≤ length (now list)) × (k + (countOf (headerAt (now list) at) + 1) ≤ length (now masks))
-        ⌝ }
-    ensures { λ _. ⌜
-        now (masks .exit)
-        ≡ paste (now (masks .entry)) k (masksIn (expand (now (list .entry)) at)) (countOf (headerAt (now (list .entry)) at) + 1)
-        ⌝ }
+    requires { ⌜ CommandFits (now list) at (now masks) k ⌝ }
+    ensures { λ _. ⌜ now (masks .exit) ≡ withRow masksIn (now (list .entry)) at (now (masks .entry)) k ⌝ }
 {
     let h = words::parts(list[at + 1]);
     let mask = h.mask;
@@ -58,13 +47,8 @@ fn put_masks(list: &[u32], at: usize, masks: &mut [u32], k: usize)
 
 // Their values: the first stands before the header, the others after it.
 fn put_values(list: &[u32], at: usize, values: &mut [u32], k: usize)
-    requires { ⌜
-        (at + wordsOf (headerAt (now list) at) ≤ length (now list)) × (k + (countOf (headerAt (now list) at) + 1) ≤ length (now values))
-        ⌝ }
-    ensures { λ _. ⌜
-        now (values .exit)
-        ≡ paste (now (values .entry)) k (valuesIn (expand (now (list .entry)) at)) (countOf (headerAt (now (list .entry)) at) + 1)
-        ⌝ }
+    requires { ⌜ CommandFits (now list) at (now values) k ⌝ }
+    ensures { λ _. ⌜ now (values .exit) ≡ withRow valuesIn (now (list .entry)) at (now (values .entry)) k ⌝ }
 {
     let h = words::parts(list[at + 1]);
     let n = h.count as usize + 1;
@@ -85,23 +69,11 @@ fn put_short(
     values: &mut [u32],
     k: usize,
 )
-    requires { ⌜ at + wordsOf (headerAt (now list) at) ≤ length (now list) ⌝ }
-    requires { ⌜
-        (k + (countOf (headerAt (now list) at) + 1) ≤ length (now ids)) × (length (now ids) ≡ length (now masks))
-        × (length (now ids) ≡ length (now values))
-        ⌝ }
-    ensures ids { λ _. ⌜
-        now (ids .exit)
-        ≡ paste (now (ids .entry)) k (idsIn (expand (now (list .entry)) at)) (countOf (headerAt (now (list .entry)) at) + 1)
-        ⌝ }
-    ensures masks { λ _. ⌜
-        now (masks .exit)
-        ≡ paste (now (masks .entry)) k (masksIn (expand (now (list .entry)) at)) (countOf (headerAt (now (list .entry)) at) + 1)
-        ⌝ }
-    ensures values { λ _. ⌜
-        now (values .exit)
-        ≡ paste (now (values .entry)) k (valuesIn (expand (now (list .entry)) at)) (countOf (headerAt (now (list .entry)) at) + 1)
-        ⌝ }
+    requires { ⌜ CommandFits (now list) at (now ids) k ⌝ }
+    requires { ⌜ (length (now ids) ≡ length (now masks)) × (length (now ids) ≡ length (now values)) ⌝ }
+    ensures ids { λ _. ⌜ now (ids .exit) ≡ withRow idsIn (now (list .entry)) at (now (ids .entry)) k ⌝ }
+    ensures masks { λ _. ⌜ now (masks .exit) ≡ withRow masksIn (now (list .entry)) at (now (masks .entry)) k ⌝ }
+    ensures values { λ _. ⌜ now (values .exit) ≡ withRow valuesIn (now (list .entry)) at (now (values .entry)) k ⌝ }
 {
     let h = words::parts(list[at + 1]);
     let mask = h.mask;
@@ -131,23 +103,11 @@ fn put_command(
     values: &mut [u32],
     k: usize,
 )
-    requires { ⌜ at + wordsOf (headerAt (now list) at) ≤ length (now list) ⌝ }
-    requires { ⌜
-        (k + (countOf (headerAt (now list) at) + 1) ≤ length (now ids)) × (length (now ids) ≡ length (now masks))
-        × (length (now ids) ≡ length (now values))
-        ⌝ }
-    ensures ids { λ _. ⌜
-        now (ids .exit)
-        ≡ paste (now (ids .entry)) k (idsIn (expand (now (list .entry)) at)) (countOf (headerAt (now (list .entry)) at) + 1)
-        ⌝ }
-    ensures masks { λ _. ⌜
-        now (masks .exit)
-        ≡ paste (now (masks .entry)) k (masksIn (expand (now (list .entry)) at)) (countOf (headerAt (now (list .entry)) at) + 1)
-        ⌝ }
-    ensures values { λ _. ⌜
-        now (values .exit)
-        ≡ paste (now (values .entry)) k (valuesIn (expand (now (list .entry)) at)) (countOf (headerAt (now (list .entry)) at) + 1)
-        ⌝ }
+    requires { ⌜ CommandFits (now list) at (now ids) k ⌝ }
+    requires { ⌜ (length (now ids) ≡ length (now masks)) × (length (now ids) ≡ length (now values)) ⌝ }
+    ensures ids { λ _. ⌜ now (ids .exit) ≡ withRow idsIn (now (list .entry)) at (now (ids .entry)) k ⌝ }
+    ensures masks { λ _. ⌜ now (masks .exit) ≡ withRow masksIn (now (list .entry)) at (now (masks .entry)) k ⌝ }
+    ensures values { λ _. ⌜ now (values .exit) ≡ withRow valuesIn (now (list .entry)) at (now (values .entry)) k ⌝ }
 {
     let h = words::parts(list[at + 1]);
     if h.count < 16 {

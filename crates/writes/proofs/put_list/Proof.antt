@@ -64,13 +64,8 @@ put-command-requires c κs =
     let o = at-loop .loop in
     let t = at-loop-test .loop-test .taken in
     let w = next-within (a .list .now) (a .ids .now) (a .masks .now) (a .values .now) (o .at) (o .k) _ _ _ (o .inv .4) t in (
-      full-next (a .list .now) (o .at) t (o .inv .0) .0,
-      (
-        omega (arith, w, at-start .pre .1 .0, o .inv .1),
-        omega
-            (arith, at-start .pre .1 .1, o .inv .1, o .inv .2),
-        omega (arith, at-start .pre .1 .2, o .inv .1, o .inv .3),
-      ),
+      (full-next (a .list .now) (o .at) t (o .inv .0) .0, omega (arith, w, at-start .pre .1 .0, o .inv .1)),
+      (omega (arith, at-start .pre .1 .1, o .inv .1, o .inv .2), omega (arith, at-start .pre .1 .2, o .inv .1, o .inv .3)),
     )
 
 add-k : tie.Need-add-k Inv-loop μ-loop

@@ -80,7 +80,7 @@ first c =
     let a = b .args in
     let l = a .list .now in
     let p = c .before .before .parts .ensures in
-    put-next l (a .at) (a .k) (a .ids .now) (a .masks .now) (a .values .now) (b .pre .1 .0) (b .pre .1 .1, b .pre .1 .2) (a .ids .now)
+    put-next l (a .at) (a .k) (a .ids .now) (a .masks .now) (a .values .now) (b .pre .0 .1) (b .pre .1) (a .ids .now)
     (a .masks .now) (a .values .now) 0 (a .k) 1 _ _ _ (omega arith) (omega arith) (omega arith) (p .0 ∙ id-first l (a .at)) (p .1) refl
     (put-none l (a .at) (a .k) (a .ids .now) (a .masks .now) (a .values .now))
 
@@ -103,7 +103,7 @@ loop-holds c =
       refl,
       refl,
       refl,
-      put-back l (a .at) (a .k) (a .ids .now) (a .masks .now) (a .values .now) (b .pre .1 .0) (b .pre .1 .1, b .pre .1 .2) _ _ _ (first c) 1
+      put-back l (a .at) (a .k) (a .ids .now) (a .masks .now) (a .values .now) (b .pre .0 .1) (b .pre .1) _ _ _ (first c) 1
           (omega arith) (omega arith) _ _ _ (first c),
     )
 
@@ -126,7 +126,7 @@ slice-write-ids-2 c =
     let at-start = at-parts .before .before .before .before .before .before in
     omega (
       arith,
-      at-start .pre .1 .0,
+      at-start .pre .0 .1,
       at-loop .loop .inv .3,
       c .loop-test .taken,
       length-set (at-start .args .ids .now) (at-start .args .k) (at-parts .parts .result .id),
@@ -145,8 +145,8 @@ slice-write-masks-2 c =
     let at-start = at-parts .before .before .before .before .before .before in
     omega (
       arith,
+      at-start .pre .0 .1,
       at-start .pre .1 .0,
-      at-start .pre .1 .1,
       at-loop .loop .inv .4,
       c .loop-test .taken,
       length-set (at-start .args .masks .now) (at-start .args .k) (at-parts .parts .result .mask),
@@ -177,8 +177,8 @@ slice-write-values-2 c =
     let at-start = at-loop .before .before .before .before .before .before .before .before .before in
     omega (
       arith,
-      at-start .pre .1 .0,
-      at-start .pre .1 .2,
+      at-start .pre .0 .1,
+      at-start .pre .1 .1,
       at-loop .loop .inv .5,
       at-loop-test .loop-test .taken,
       length-set (at-start .args .values .now) (at-start .args .k) (getD (at-start .args .list .now) (at-start .args .at) 0),
@@ -205,9 +205,9 @@ loop-again c =
     ap (λ (x : ℕ). o .id + x) (p .3) ∙ next in
     let n = long at-shared-slice-known3 in
     let s = first-stands at-shared-slice-known3 in
-    let room : a .k + (countOf (headerAt l (a .at)) + 1) ≤ length (s .0) = omega (arith, b .pre .1 .0, n .0) in
+    let room : a .k + (countOf (headerAt l (a .at)) + 1) ≤ length (s .0) = omega (arith, b .pre .0 .1, n .0) in
     let level : (length (s .0) ≡ length (s .1)) × (length (s .0) ≡ length (s .2)) =
-    (omega (arith, b .pre .1 .1, n .0, n .1), omega (arith, b .pre .1 .2, n .0, n .2)) in (
+    (omega (arith, b .pre .1 .0, n .0, n .1), omega (arith, b .pre .1 .1, n .0, n .2)) in (
       omega arith,
       e,
       omega (arith, p .3, o .inv .2),
@@ -247,7 +247,7 @@ returns c =
     let o = at-loop .loop in
     let p = at-parts .parts .ensures in
     let z : o .m + 1 ≡ countOf (headerAt l (a .at)) + 1 = omega (arith, o .inv .0, c .loop-test .left, p .2) in
-    let P = put-over l (a .at) (a .k) (a .ids .now) (a .masks .now) (a .values .now) (b .pre .1 .0) (b .pre .1 .1, b .pre .1 .2) _ _ _
+    let P = put-over l (a .at) (a .k) (a .ids .now) (a .masks .now) (a .values .now) (b .pre .0 .1) (b .pre .1) _ _ _
     (first at-shared-slice-known3) (o .m + 1) (omega arith) (omega arith) (o .ids) (o .masks) (o .values) (o .inv .6) in
     (rw z at (P .ids), (rw z at (P .masks), rw z at (P .values)))
 
