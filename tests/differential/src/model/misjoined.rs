@@ -1,0 +1,143 @@
+//! Planted faults of lists that arrive in pieces: what goes wrong where a list
+//! was cut. Without a fault the parts are joined, and nothing else is done.
+
+use std::borrow::Cow;
+
+use super::commands::{expand, firsts, header, words_needed, Write};
+use super::faults::*;
+use super::pieces::Fed;
+use super::reading::list_length;
+use super::Refusal;
+
+impl Fed {
+    /// Whether a part that has words before it begins at this word.
+    fn cut_at(&self, word: usize) -> bool {
+        word > 0 && self.parts.contains(&word)
+    }
+
+    fn part(&self, number: usize) -> &[u32] {
+        let end = self.parts.get(number + 1).copied();
+        &self.joined[self.parts[number]..end.unwrap_or(self.joined.len())]
+    }
+}
+
+/// The joined list.
+pub fn list(fault: u32, fed: &Fed) -> Cow<'_, [u32]> {
+    match fault {
+        PIECES_FIRST_LOST => Cow::Owned(first_lost(fed)),
+        PIECES_PADDING_LOST => Cow::Owned(padding_lost(fed)),
+        _ => Cow::Borrowed(&fed.joined),
+    }
+}
+
+/// A first parameter is 0 where the header comes with the next part.
+fn first_lost(fed: &Fed) -> Vec<u32> {
+    let mut list = fed.joined.clone();
+    for first in firsts(&fed.joined) {
+        if fed.cut_at(first + 1) {
+            list[first] = 0;
+        }
+    }
+    list
+}
+
+/// The first padding word that begins a part is taken for a command's word.
+fn padding_lost(fed: &Fed) -> Vec<u32> {
+    let mut list = fed.joined.clone();
+    let padding = firsts(&fed.joined).into_iter().find_map(|first| {
+        let extra = header::<NONE>(fed.joined[first + 1]).extra;
+        let padding = first + 2 + extra as usize;
+        (extra % 2 == 1 && fed.cut_at(padding)).then_some(padding)
+    });
+    if let Some(padding) = padding.filter(|&padding| padding < list.len()) {
+        list.insert(padding, 0);
+    }
+    list
+}
+
+/// Refuses a list that is too long.
+pub fn limit(fault: u32, fed: &Fed, list: &[u32]) -> Result<(), Refusal> {
+    match fault {
+        PIECES_LIMIT_ON_PART => {
+            (0..fed.parts.len()).try_for_each(|part| list_length::<NONE>(fed.part(part)))
+        }
+        PIECES_LIMIT_UP_TO_FAULT => test_writes(list).and_then(|()| list_length::<NONE>(list)),
+        PIECES_PARTS_ALONE => {
+            list_length::<NONE>(list)?;
+            test_parts(fed)
+        }
+        PIECES_LIMIT_PLACE => list_length::<NONE>(list).map_err(|refusal| Refusal {
+            place: 65_536,
+            ..refusal
+        }),
+        _ => list_length::<NONE>(list),
+    }
+}
+
+/// Refuses the first write at fault, and no missing words.
+pub fn test_writes(list: &[u32]) -> Result<(), Refusal> {
+    match expand::<NONE>(list, &mut Vec::new()) {
+        Err(refusal) if refusal.number > 2 => Err(refusal),
+        _ => Ok(()),
+    }
+}
+
+/// Each part as a list of its own.
+fn test_parts(fed: &Fed) -> Result<(), Refusal> {
+    for (number, start) in fed.parts.iter().enumerate() {
+        expand::<NONE>(fed.part(number), &mut Vec::new()).map_err(|refusal| Refusal {
+            place: refusal.place + *start as u32,
+            ..refusal
+        })?;
+    }
+    Ok(())
+}
+
+/// A commands' refusal, with its place.
+pub fn placed(fault: u32, fed: &Fed, refusal: Refusal) -> Refusal {
+    let before = |start: &&usize| **start <= refusal.place as usize;
+    match fed.parts.iter().rev().find(before) {
+        Some(start) if fault == PIECES_PLACE_IN_PART => Refusal {
+            place: refusal.place - *start as u32,
+            ..refusal
+        },
+        _ => refusal,
+    }
+}
+
+/// Whether a part that comes next is not looked at.
+pub fn left_out(fault: u32, fed: &Fed) -> bool {
+    match fault {
+        PIECES_EMPTY_ENDS => (0..fed.parts.len()).any(|part| fed.part(part).is_empty()),
+        PIECES_COUNT_STOPS => test_writes(&fed.joined).is_err(),
+        _ => false,
+    }
+}
+
+/// Ids of a consecutive command begin again with the first parameter of a part.
+pub fn rise_anew(fed: &Fed, writes: &mut [Write]) {
+    let mut writes = writes.iter_mut();
+    for first in firsts(&fed.joined) {
+        let header = header::<NONE>(fed.joined[first + 1]);
+        let mut id = header.id;
+        for parameter in 0..=header.extra {
+            let word = first + (parameter + parameter.min(1)) as usize;
+            if parameter > 0 && fed.cut_at(word) {
+                id = header.id;
+            }
+            if let (Some(write), true) = (writes.next(), header.consecutive) {
+                write.id = id;
+            }
+            id += 1;
+        }
+    }
+}
+
+/// The writes of the commands that end in the last part.
+pub fn writes_of_last_part(fed: &Fed) -> u32 {
+    let last = fed.parts.last().copied().unwrap_or(0);
+    let ends_there = |(first, extra): &(usize, u32)| first + words_needed::<NONE>(*extra) > last;
+    let commands = firsts(&fed.joined).into_iter();
+    let extras = commands.map(|first| (first, header::<NONE>(fed.joined[first + 1]).extra));
+    extras.filter(ends_there).map(|(_, extra)| extra + 1).sum()
+}
