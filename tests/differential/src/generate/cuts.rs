@@ -5,13 +5,13 @@ use crate::model::firsts;
 use crate::random::Random;
 
 /// A list that is cut into more parts than this is looked at for too long.
-const MOST_SINGLE_WORDS: usize = 48;
+const MOST_SINGLE_WORDS: usize = 24;
 
 pub fn list(random: &mut Random) -> Vec<u32> {
-    match random.below(256) {
+    match random.below(512) {
         0 => lists::long_list_with_fault(random),
-        1..=15 => lists::cut_after_fault(random),
-        16..=31 => lists::port_run(random),
+        1..=31 => lists::cut_after_fault(random),
+        32..=63 => lists::port_run(random),
         _ => lists::short_list(random),
     }
 }

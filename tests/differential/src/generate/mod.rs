@@ -53,8 +53,8 @@ pub fn fresh_state(random: &mut Random, memory: &mut Memory) {
 }
 
 pub fn next_case(random: &mut Random, memory: &mut Memory) -> Case {
-    let kind = match random.below(24) {
-        23 => Kind::Pieces,
+    let kind = match random.below(23) {
+        _ if random.chance(1, 18) => Kind::Pieces,
         0..=7 => Kind::Read,
         8..=10 => Kind::Write,
         11..=13 => Kind::Pack,

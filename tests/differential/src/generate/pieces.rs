@@ -64,20 +64,17 @@ fn steps(random: &mut Random, parts: &mut Vec<Vec<u32>>) -> Vec<Step> {
     steps
 }
 
-/// Puts a call with wrong lengths before the same one with right ones. A long
-/// list has one more often at its close, where the order of refusals shows.
-fn add_wrong_lengths(random: &mut Random, steps: &mut Vec<Step>, long: bool) {
+/// Puts calls with wrong lengths before the same ones with right ones, most
+/// often before the opening and the close.
+fn add_wrong_lengths(random: &mut Random, steps: &mut Vec<Step>) {
     for _ in 0..random.between(1, 2) {
         let last = steps.len() - 1;
-        let number = if long && random.chance(1, 2) {
-            last
-        } else {
-            random.below(last as u32 + 1) as usize
-        };
+        let any = random.below(steps.len() as u32) as usize;
+        let number = random.pick(&[0, any, last]);
         let mut wrong = Step::new(steps[number].call);
-        match (wrong.call, random.below(4)) {
+        match (wrong.call, random.below(5)) {
             (Call::Feed(_), _) | (_, 0 | 1) => wrong_lengths(random, &mut wrong.spare),
-            (_, 2) => wrong_lengths(random, &mut wrong.live),
+            (_, 2 | 3) => wrong_lengths(random, &mut wrong.live),
             _ => {
                 wrong_lengths(random, &mut wrong.live);
                 wrong_lengths(random, &mut wrong.spare);
@@ -145,9 +142,10 @@ pub fn lend_session(random: &mut Random, memory: &mut Memory) -> (Vec<Step>, Vec
         let number = random.below(steps.len() as u32) as usize;
         steps[number].strays = strays(random);
     }
+    // At the close of a long list the order of two refusals shows.
     let long = parts.iter().map(Vec::len).sum::<usize>() > 65_000;
-    if random.chance(1, if long { 2 } else { 6 }) {
-        add_wrong_lengths(random, &mut steps, long);
+    if random.chance(1, if long { 2 } else { 5 }) {
+        add_wrong_lengths(random, &mut steps);
     }
     let mut buffers = vec![&reader[..]];
     buffers.extend(parts.iter().map(Vec::as_slice));

@@ -7,7 +7,7 @@ use super::commands::{expand, firsts, header, words_needed, Write};
 use super::faults::*;
 use super::pieces::Fed;
 use super::reading::list_length;
-use super::Refusal;
+use super::{ports, Refusal};
 
 impl Fed {
     /// Whether a part that has words before it begins at this word.
@@ -114,23 +114,43 @@ pub fn left_out(fault: u32, fed: &Fed) -> bool {
     }
 }
 
-/// Ids of a consecutive command begin again with the first parameter of a part.
-pub fn rise_anew(fed: &Fed, writes: &mut [Write]) {
-    let mut writes = writes.iter_mut();
+/// For each write, in order: the parameters of its command before it, as far as
+/// they came with its part, and whether some came with an earlier one.
+fn since_cut(fed: &Fed) -> Vec<(u32, bool)> {
+    let mut since = Vec::new();
     for first in firsts(&fed.joined) {
-        let header = header::<NONE>(fed.joined[first + 1]);
-        let mut id = header.id;
-        for parameter in 0..=header.extra {
-            let word = first + (parameter + parameter.min(1)) as usize;
+        let mut before = (0, false);
+        for parameter in 0..=header::<NONE>(fed.joined[first + 1]).extra {
+            let word = first + (parameter + 1) as usize;
             if parameter > 0 && fed.cut_at(word) {
-                id = header.id;
+                before = (0, true);
             }
-            if let (Some(write), true) = (writes.next(), header.consecutive) {
-                write.id = id;
-            }
-            id += 1;
+            since.push(before);
+            before.0 += 1;
         }
     }
+    since
+}
+
+/// Ids of a consecutive command begin again with each part.
+pub fn rise_anew(fed: &Fed, writes: &mut [Write]) {
+    let mut first = 0;
+    for (write, (before, cut)) in writes.iter_mut().zip(since_cut(fed)) {
+        match (before, cut) {
+            (0, false) => first = write.id,
+            (_, true) if write.id > first => write.id = first + before,
+            _ => {}
+        }
+    }
+}
+
+/// A run of port data ends with its part.
+pub fn port_run_ends(fed: &Fed, writes: &mut Vec<Write>) {
+    let mut since = since_cut(fed).into_iter();
+    writes.retain(|write| {
+        let cut = since.next().is_some_and(|(_, cut)| cut);
+        !(cut && ports::is_data::<NONE>(write.id))
+    });
 }
 
 /// The writes of the commands that end in the last part.

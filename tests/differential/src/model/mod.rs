@@ -15,6 +15,8 @@ mod misjoined;
 mod names;
 mod packing;
 mod pieces;
+#[cfg(test)]
+mod pieces_examples;
 mod ports;
 mod reading;
 

@@ -204,13 +204,14 @@ fn judge(fault: u32, fed: &Fed, writes: &mut Vec<Write>) -> Result<u32, Refusal>
         _ => expand::<NONE>(&list, writes),
     };
     judged.map_err(|refusal| misjoined::placed(fault, fed, refusal))?;
-    if fault == PIECES_RISE_ANEW {
-        misjoined::rise_anew(fed, writes);
+    let count = writes.len() as u32;
+    match fault {
+        PIECES_RISE_ANEW => misjoined::rise_anew(fed, writes),
+        PIECES_PORT_RUN_ENDS => misjoined::port_run_ends(fed, writes),
+        PIECES_ANSWER_LAST_PART => return Ok(misjoined::writes_of_last_part(fed)),
+        _ => {}
     }
-    Ok(match fault {
-        PIECES_ANSWER_LAST_PART => misjoined::writes_of_last_part(fed),
-        _ => writes.len() as u32,
-    })
+    Ok(count)
 }
 
 /// A close whose verdict isn't known: the live state takes the spare one's
