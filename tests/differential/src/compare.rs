@@ -25,8 +25,8 @@ pub struct Tally {
 }
 
 impl Tally {
-    /// Counts a case: a call's answer, or those of a session's closes, of which
-    /// the last one says whether the session was answered.
+    /// Counts a case: a call's answer, or a session's closes, of which the last
+    /// one says whether the session was answered.
     fn count(&mut self, kind: Kind, answers: &[u64]) {
         self.cases[kind as usize] += 1;
         self.answered[kind as usize] +=

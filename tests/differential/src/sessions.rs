@@ -70,7 +70,8 @@ fn word_text(case: &Case, step: &Step, library: &Memory, model: &Memory) -> Opti
     }
 }
 
-/// The answers to the closes of a session; or how the two machines differ.
+/// The answers to the closes of a session, as far as the model knows them; or
+/// how the two machines differ.
 pub fn run(
     [library, model]: [&Machine; 2],
     case: &Case,
@@ -85,6 +86,7 @@ pub fn run(
             store(right, *stray);
             fed.known = false;
         }
+        let known = fed.known;
         fed.told = call(library, case, step, left, &mut Fed::default());
         let answer = call(model, case, step, right, &mut fed);
         if matches!(step.call, Call::Feed(_)) && answer >> 32 == 0 {
@@ -92,7 +94,7 @@ pub fn run(
         }
         same(fed.told, answer, word_text(case, step, left, right))
             .map_err(|difference| format!("call {number}, {step:?}: {difference}"))?;
-        if step.call == Call::Close {
+        if step.call == Call::Close && known {
             closes.push(answer);
         }
     }
@@ -128,20 +130,11 @@ mod tests {
         }
     }
 
-    fn step(call: Call) -> Step {
-        Step {
-            call,
-            live: STATE_LENGTHS,
-            spare: STATE_LENGTHS,
-            strays: Vec::new(),
-        }
-    }
-
     #[test]
     fn every_word_is_watched() {
         let (case, mut left) = session();
         let right = copy_of(&left);
-        let close = step(Call::Close);
+        let close = Step::new(Call::Close);
         assert_eq!(word_text(&case, &close, &left, &right), None);
         let lengths = [left.state.len(), left.spare.len(), left.lent.len()];
         for (which, length) in lengths.into_iter().enumerate() {
@@ -173,7 +166,7 @@ mod tests {
     fn a_feed_may_change_held_bits_alone() {
         let (case, mut left) = session();
         let mut right = copy_of(&left);
-        let feed = step(Call::Feed(0));
+        let feed = Step::new(Call::Feed(0));
         for position in 0..left.spare.len() {
             let open = open_bits(position);
             for (bits, told) in [(open, false), (!open, open != !0)] {
@@ -209,7 +202,11 @@ mod tests {
     /// Whether a session that nobody opened shows no difference.
     fn passes(library: &Machine) -> bool {
         let (mut case, mut right) = session();
-        case.steps = vec![step(Call::Feed(0)), step(Call::Feed(1)), step(Call::Close)];
+        case.steps = vec![
+            Step::new(Call::Feed(0)),
+            Step::new(Call::Feed(1)),
+            Step::new(Call::Close),
+        ];
         let mut left = copy_of(&right);
         let machines = [library, &Machine::model::<NONE>()];
         run(machines, &case, [&mut left, &mut right]).is_ok()

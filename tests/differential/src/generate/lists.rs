@@ -198,7 +198,7 @@ pub fn long_list_with_fault(random: &mut Random) -> Vec<u32> {
     }
     fill(random, &mut list);
     if random.chance(1, 8) {
-        list.extend_from_within(..random.between(1, 65_536) as usize);
+        list.extend_from_within(..random.between(1, 65_535) as usize);
     }
     list
 }

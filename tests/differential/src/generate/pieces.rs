@@ -31,7 +31,7 @@ pub struct Step {
 }
 
 impl Step {
-    fn new(call: Call) -> Step {
+    pub fn new(call: Call) -> Step {
         Step {
             call,
             live: STATE_LENGTHS,
@@ -98,30 +98,27 @@ fn reader_word(random: &mut Random) -> u32 {
     }
 }
 
+/// Words that someone else writes: to the reader, or to held cells of a state.
 fn strays(random: &mut Random) -> Vec<(Place, u32)> {
-    match random.below(8) {
-        0 | 1 => (0..READER)
+    let which = random.below(8);
+    if which < 2 {
+        return (0..READER)
             .map(|at| (Place::Reader(at), reader_word(random)))
-            .collect(),
-        2..=5 => (0..random.between(1, 3))
-            .map(|_| {
-                let at = random.below(READER as u32) as usize;
-                (Place::Reader(at), reader_word(random))
-            })
-            .collect(),
-        6 => (0..random.between(1, 8))
-            .map(|_| {
-                let cell = random.pick(&HELD).0 as usize;
-                (Place::Spare(cell), random.word())
-            })
-            .collect(),
-        _ => (0..random.between(1, 8))
-            .map(|_| {
-                let cell = random.pick(&HELD).0 as usize;
-                (Place::Live(cell), random.word())
-            })
-            .collect(),
+            .collect();
     }
+    (0..random.between(1, 3))
+        .map(|_| {
+            let cell = random.pick(&HELD).0 as usize;
+            match which {
+                2 => (Place::Live(cell), random.word()),
+                3 => (Place::Spare(cell), random.word()),
+                _ => {
+                    let at = random.below(READER as u32) as usize;
+                    (Place::Reader(at), reader_word(random))
+                }
+            }
+        })
+        .collect()
 }
 
 /// Garbage in the whole spare state, another for each session.
@@ -135,7 +132,8 @@ fn garble(random: &mut Random, spare: &mut [u32]) {
 /// Lays out the reader and the parts; gives the calls and the lengths.
 pub fn lend_session(random: &mut Random, memory: &mut Memory) -> (Vec<Step>, Vec<usize>) {
     garble(random, &mut memory.spare);
-    let reader = [0; READER].map(|_| reader_word(random));
+    let zeros = random.chance(1, 4);
+    let reader = [0; READER].map(|_| if zeros { 0 } else { reader_word(random) });
     let mut parts = Vec::new();
     let mut steps = steps(random, &mut parts);
     if random.chance(1, 8) {

@@ -238,6 +238,6 @@ faults! {
     183 PIECES_6_FRESHENS "pieces: a close refused with 6 leaves a fresh reader";
     184 PIECES_ORDER_1_6 "pieces: 1 before 6 at the close";
     185 PIECES_OPEN_LIVE_LIGHT "pieces: opening doesn't test the live state's light length";
-    186 PIECES_FEED_FOG "pieces: a feed doesn't test the fog length";
+    186 PIECES_FEED_LIGHT "pieces: a feed doesn't test the light length";
     187 PIECES_CLOSE_SPARE_LIGHT "pieces: close doesn't test the spare state's light length";
 }

@@ -55,7 +55,7 @@ fn padding_lost(fed: &Fed) -> Vec<u32> {
     list
 }
 
-/// Refuses a list that is too long.
+/// Refuses a list that is too long; some faults look at its parts or its writes.
 pub fn limit(fault: u32, fed: &Fed, list: &[u32]) -> Result<(), Refusal> {
     match fault {
         PIECES_LIMIT_ON_PART => {
@@ -93,15 +93,16 @@ fn test_parts(fed: &Fed) -> Result<(), Refusal> {
     Ok(())
 }
 
-/// A commands' refusal, with its place.
+/// A command's refusal, with its place.
 pub fn placed(fault: u32, fed: &Fed, refusal: Refusal) -> Refusal {
+    if fault != PIECES_PLACE_IN_PART {
+        return refusal;
+    }
     let before = |start: &&usize| **start <= refusal.place as usize;
-    match fed.parts.iter().rev().find(before) {
-        Some(start) if fault == PIECES_PLACE_IN_PART => Refusal {
-            place: refusal.place - *start as u32,
-            ..refusal
-        },
-        _ => refusal,
+    let start = fed.parts.iter().rev().find(before).copied().unwrap_or(0);
+    Refusal {
+        place: refusal.place - start as u32,
+        ..refusal
     }
 }
 

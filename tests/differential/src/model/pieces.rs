@@ -6,7 +6,7 @@ use super::commands::{expand, Write};
 use super::faults::*;
 use super::misjoined;
 use super::reading::{apply, list_length};
-use super::{given_back, refuse, Refusal, CELLS, FOG_ENTRIES, HELD, LIGHT_ENTRIES};
+use super::{given_back, refuse, state_lengths, Refusal, HELD, LIGHT_ENTRIES};
 
 /// The words of a reader.
 pub const READER: usize = 11;
@@ -52,18 +52,16 @@ impl Reader<'_> {
     }
 }
 
-fn lengths(state: &State) -> Result<(), Refusal> {
-    lengths_but(None, state)
+fn lengths([cells, fog, light]: &State) -> Result<(), Refusal> {
+    state_lengths(cells, fog, light)
 }
 
-/// The three lengths; a fault leaves one of them out.
-fn lengths_but(left_out: Option<usize>, state: &State) -> Result<(), Refusal> {
-    let alike = |which: usize| state[which].len() == [CELLS, FOG_ENTRIES, LIGHT_ENTRIES][which];
-    if (0..3).all(|which| Some(which) == left_out || alike(which)) {
-        Ok(())
-    } else {
-        refuse(6, 0)
+/// The lengths, where a fault leaves the light buffer's out.
+fn lengths_but_light(left_out: bool, state: &State) -> Result<(), Refusal> {
+    if left_out {
+        return state_lengths(state[0], state[1], &[0; LIGHT_ENTRIES]);
     }
+    lengths(state)
 }
 
 /// Gives one state's held bits and entries the other's values.
@@ -99,7 +97,7 @@ pub fn open(fault: u32, live: State, spare: State, reader: Reader) -> u64 {
 }
 
 fn try_open(fault: u32, live: State, mut spare: State, mut reader: Reader) -> Result<u32, Refusal> {
-    lengths_but((fault == PIECES_OPEN_LIVE_LIGHT).then_some(2), &live)?;
+    lengths_but_light(fault == PIECES_OPEN_LIVE_LIGHT, &live)?;
     lengths(&spare)?;
     take(fault, &mut spare, &live);
     if fault == PIECES_SPARE_WHOLE {
@@ -117,7 +115,7 @@ pub fn feed(fault: u32, spare: State, reader: Reader, part: &[u32]) -> u64 {
 
 fn try_feed(fault: u32, spare: State, reader: Reader, part: &[u32]) -> Result<u32, Refusal> {
     let Reader { words, fed } = reader;
-    let tested = lengths_but((fault == PIECES_FEED_FOG).then_some(1), &spare);
+    let tested = lengths_but_light(fault == PIECES_FEED_LIGHT, &spare);
     if tested.is_ok() && !misjoined::left_out(fault, fed) || fault == PIECES_6_COUNTS {
         fed.add(part);
     }
@@ -152,8 +150,7 @@ fn try_close(
     if fault == PIECES_ORDER_1_6 {
         list_length::<NONE>(&reader.fed.joined)?;
     }
-    let left_out = (fault == PIECES_CLOSE_SPARE_LIGHT).then_some(2);
-    let tested = lengths(&live).and(lengths_but(left_out, &spare));
+    let tested = lengths(&live).and(lengths_but_light(fault == PIECES_CLOSE_SPARE_LIGHT, &spare));
     if fault == PIECES_6_FRESHENS && tested.is_err() {
         reader.freshen();
     }
