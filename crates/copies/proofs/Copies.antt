@@ -8,7 +8,7 @@ use native.Mathlib.Omega.{arith}
 use lib.ListN.{length, getD, set, length-set}
 use lib.Seq.{getD-set-same, getD-set-other}
 use Rattle.registers.specs.State.{State, st}
-use Rattle.copies.specs.Copy.{cellOf, entryOf, taking, taken}
+use Rattle.copies.specs.Copy.{cellTaking, entryTaking, taking, taken}
 
 module _ (f : ℕ → ℕ → ℕ → ℕ) (to from : List ℕ) where
   pub taking-none : taking f 0 to from ≡ to
@@ -50,6 +50,6 @@ module _ (f : ℕ → ℕ → ℕ → ℕ) (to from : List ℕ) where
 
 pub taken-is : (to from : State)
     → taken to from
-    ≡ st (taking cellOf 768 (to .cells) (from .cells)) (taking entryOf 128 (to .fog) (from .fog)) (taking entryOf 6144 (to .light) (from .light))
+    ≡ st (taking cellTaking 768 (to .cells) (from .cells)) (taking entryTaking 128 (to .fog) (from .fog)) (taking entryTaking 6144 (to .light) (from .light))
 unfolding taken
 taken-is to from = refl

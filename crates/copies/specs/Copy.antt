@@ -10,14 +10,16 @@ use Rattle.registers.specs.State.{State, st}
 use Rattle.registers.specs.Held.{bitsOf}
 
 -- the cell of id i takes the held bits; one that isn't held stays
-abbrev pub cellOf : ℕ → ℕ → ℕ → ℕ
-cellOf i old new = pick (eqb (bitsOf i) 0) old (merge (bitsOf i) old new)
+abbrev pub cellTaking : ℕ → ℕ → ℕ → ℕ
+cellTaking i old new = pick (eqb (bitsOf i) 0) old (merge (bitsOf i) old new)
 
--- entry i takes the low 24 bits, of an unnamed table too: the request says "entries" and makes no exception
-abbrev pub entryOf : ℕ → ℕ → ℕ → ℕ
-entryOf i old new = entry old new
+-- entry i takes the low 24 bits, of an unnamed table too: the request says "entries" and makes no exception, and document 01's "their
+-- entries never change" speaks of port writes
+abbrev pub entryTaking : ℕ → ℕ → ℕ → ℕ
+entryTaking i old new = entry old new
 
--- the first n elements of `to`, each with what f takes of the same element of `from`; laws `taking-done` and `taking-later` say so
+-- `to`, its first n elements each with what f takes of the same element of `from`, the rest as it was; laws `taking-done` and
+-- `taking-later` say so
 unfoldable pub taking : (ℕ → ℕ → ℕ → ℕ) → ℕ → List ℕ → List ℕ → List ℕ
 taking f zero to from = to
 taking f (suc n) to from = let t = taking f n to from in set t n (f n (getD t n 0) (getD from n 0))
@@ -25,5 +27,5 @@ taking f (suc n) to from = let t = taking f n to from in set t n (f n (getD t n 
 -- THE STATE `to` WITH THE HELD BITS AND ENTRIES OF `from`
 unfoldable pub taken : State → State → State
 taken to from =
-    st (taking cellOf 768 (to .cells) (from .cells)) (taking entryOf 128 (to .fog) (from .fog))
-    (taking entryOf 6144 (to .light) (from .light))
+    st (taking cellTaking 768 (to .cells) (from .cells)) (taking entryTaking 128 (to .fog) (from .fog))
+    (taking entryTaking 6144 (to .light) (from .light))

@@ -4,7 +4,7 @@ ghost use Prim.Native.Nat.{_<_};
 ghost use lib.ListN.{length};
 ghost use Rattle.registers.specs.State.{st, Lengths};
 ghost use Rattle.registers.specs.Tables.{LookupTables};
-ghost use Rattle.copies.specs.Copy.{cellOf, entryOf, taking, taken};
+ghost use Rattle.copies.specs.Copy.{cellTaking, entryTaking, taking, taken};
 
 fn id_of(i: usize) -> u32
     requires { ⌜ i < 768 ⌝ }
@@ -16,7 +16,7 @@ fn id_of(i: usize) -> u32
 // The cell of `id`, with the held bits of `new`.
 fn cell_taken(slots: &[u8; 256], held: &[u32; 132], id: u32, old: u32, new: u32) -> u32
     requires { ⌜ LookupTables (now slots) (now held) ⌝ }
-    ensures { λ r. ⌜ r ≡ cellOf id old new ⌝ }
+    ensures { λ r. ⌜ r ≡ cellTaking id old new ⌝ }
 {
     let bits = registers::bits_held(slots, held, id);
     if bits == 0 {
@@ -27,14 +27,14 @@ fn cell_taken(slots: &[u8; 256], held: &[u32; 132], id: u32, old: u32, new: u32)
 
 // An entry, with the low 24 bits of `new`.
 fn entry_taken(old: u32, new: u32) -> u32
-    ensures { λ r. ⌜ r ≡ entryOf 0 old new ⌝ }
+    ensures { λ r. ⌜ r ≡ entryTaking 0 old new ⌝ }
 {
     old / 0x1000000 * 0x1000000 + new % 0x1000000
 }
 
 fn take_cells(to: &mut [u32], from: &[u32])
     requires { ⌜ (length (now to) ≡ 768) × (length (now from) ≡ 768) ⌝ }
-    ensures { λ _. ⌜ now (to .exit) ≡ taking cellOf 768 (now (to .entry)) (now (from .entry)) ⌝ }
+    ensures { λ _. ⌜ now (to .exit) ≡ taking cellTaking 768 (now (to .entry)) (now (from .entry)) ⌝ }
 {
     let slots = registers::held::slot_table();
     let held = registers::held::held_table();
@@ -47,7 +47,7 @@ fn take_cells(to: &mut [u32], from: &[u32])
 
 fn take_entries(to: &mut [u32], from: &[u32])
     requires { ⌜ length (now to) ≡ length (now from) ⌝ }
-    ensures { λ _. ⌜ now (to .exit) ≡ taking entryOf (length (now (from .entry))) (now (to .entry)) (now (from .entry)) ⌝ }
+    ensures { λ _. ⌜ now (to .exit) ≡ taking entryTaking (length (now (from .entry))) (now (to .entry)) (now (from .entry)) ⌝ }
 {
     let mut i: usize = 0;
     while i < from.len() {

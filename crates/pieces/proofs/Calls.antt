@@ -6,7 +6,7 @@ use Prim.Native.Nat.{ℕ}
 use Rattle.numbers.specs.Answer.{Answer, answered, refused}
 use Rattle.registers.specs.State.{State, sized}
 use Rattle.registers.specs.Applied.{applyAll}
-use Rattle.pieces.specs.Progress.{fresh, after, made, closing}
+use Rattle.pieces.specs.Progress.{fresh, after, made, counted, closing}
 use Rattle.copies.specs.Copy.{taken}
 use Rattle.pieces.specs.Pieces.{wrongLength, bothSized, opening, openedSpare, feeding, fedSpare, closeAnswer, closeProgress, closedLive, closedSpare}
 use Rattle.pieces.specs.declared.Progress.{Progress}
@@ -19,7 +19,7 @@ module _ (p : Progress) (s : State) (l : List ℕ) where
   unfolding feeding fedSpare
   feed-wrong e = rw e (refl, refl)
 
-  pub feed-right : sized s ≡ true → (Come (after p l) ≡ feeding p s l) × (applyAll s (made p l) ≡ fedSpare p s l)
+  pub feed-right : sized s ≡ true → (Come (counted (after p l)) ≡ feeding p s l) × (applyAll s (made p l) ≡ fedSpare p s l)
   unfolding feeding fedSpare
   feed-right e = rw e (refl, refl)
 

@@ -17,7 +17,7 @@ use Rattle.words.specs.Commands.{commands, join, expansion}
 use Rattle.words.proofs.Laws.{commands-end, expansion-of, join-none}
 use Rattle.reader.specs.ListVerdict.{verdict}
 use Rattle.reader.proofs.Judging.{judge-end, judge-short, verdict-of}
-use Rattle.pieces.specs.Progress.{fresh, past, extra, padding, headed, started, passed, byWord, next, makes, after, made, between, closing}
+use Rattle.pieces.specs.Progress.{fresh, past, extra, padding, headed, started, passed, byWord, next, makes, after, made, between, faultNumber, closing}
 use Rattle.pieces.specs.declared.Progress.{Progress}
 use Rattle.pieces.proofs.Steps.{after-none, after-more, made-none, made-more}
 use Rattle.pieces.proofs.Stands.{append-nil, Between, Begun, Inside, Ended, Stands, at-between, at-begun, at-inside, at-end, Goes, step-on}
@@ -32,9 +32,13 @@ module _ (p : Progress) where
   unfolding closing
   closes-short h b = rw (le-ltb 65536 (p .come) h, b)
 
-  pub closes-whole : p .come ≤ 65536 → between p ≡ true → closing p ≡ unlessFault (p .fault) (p .place) (answered (p .writes))
+  pub closes-accepted : p .come ≤ 65536 → between p ≡ true → p .fault ≡ 0 → closing p ≡ answered (p .writes)
   unfolding closing
-  closes-whole h b = rw (le-ltb 65536 (p .come) h, b)
+  closes-accepted h b f = rw (le-ltb 65536 (p .come) h, b, eq-eqb (p .fault) 0 f)
+
+  pub closes-fault : p .come ≤ 65536 → between p ≡ true → (p .fault ≡ 0 → ⊥) → closing p ≡ refused (faultNumber (p .fault)) (p .place)
+  unfolding closing
+  closes-fault h b f = rw (le-ltb 65536 (p .come) h, b, ne-eqb (p .fault) 0 f)
 
   pub all-come : p .left ≡ 0 → p .pad ≡ 0 → p .begun ≡ 0 → between p ≡ true
   all-come a b c = rw (eq-eqb (p .left) 0 a, eq-eqb (p .pad) 0 b, eq-eqb (p .begun) 0 c)
@@ -52,10 +56,6 @@ not-all p (no a) (no b) h =
 pub some-lacks : (p : Progress) → 0 < p .left + p .pad + p .begun → between p ≡ false
 some-lacks p h = not-all p (decLt 0 (p .left)) (decLt 0 (p .pad)) h
 
-pub fault-stops : (f p : ℕ) (a : Answer) → (f ≡ 0 → ⊥) → unlessFault f p a ≡ refused f p
-fault-stops zero p a z = absurd (z refl)
-fault-stops (suc f) p a z = refl
-
 -- what a list's end leaves
 pub record Final (l : List ℕ) (q : Progress) (ws : List Write) : Type 0 where
   pub answer : closing q ≡ verdict l
@@ -69,8 +69,8 @@ module _ (l : List ℕ) (fits : length l ≤ 65536) where
   at-last j p ws c e (at-between s) =
       record {
         answer =
-            closes-whole p (omega arith) (all-come p (s .left) (s .pad) (s .begun))
-            ∙ rw (s .fault) (sym (judge-end l j (p .writes) (omega arith)) ∙ s .answer);
+            closes-accepted p (omega arith) (all-come p (s .left) (s .pad) (s .begun)) (s .fault)
+            ∙ sym (judge-end l j (p .writes) (omega arith)) ∙ s .answer;
         writes = λ m v. sym (append-nil ws) ∙ (rw (commands-end l j (omega arith), join-none l) at (s .writes));
       }
   at-last j p ws c e (at-begun s) =
@@ -88,9 +88,8 @@ module _ (l : List ℕ) (fits : length l ≤ 65536) where
   at-last j p ws c e (at-end s) =
       record {
         answer =
-            closes-whole p (omega arith) (all-come p (s .left) (s .pad) (s .begun))
-            ∙ fault-stops (p .fault) (p .place) (answered (p .writes)) (s .fault) ∙ s .answer;
-        writes = λ m w. never (verdict l) (p .fault) (p .place) m (s .answer) w;
+            closes-fault p (omega arith) (all-come p (s .left) (s .pad) (s .begun)) (s .fault) ∙ s .answer;
+        writes = λ m w. never (verdict l) (faultNumber (p .fault)) (p .place) m (s .answer) w;
       }
 
   -- from the j-th word on

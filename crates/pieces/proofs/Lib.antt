@@ -1,7 +1,7 @@
 pub mod Steps
 pub mod Stands
 pub mod Closing
-pub mod Parts
+pub mod Counts
 pub mod Makes
 pub mod Calls
 pub mod Once

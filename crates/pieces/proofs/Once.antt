@@ -43,7 +43,7 @@ feed-settled κs a =
     settled _ _ (λ r. r) (λ r r′ e. e) (feeding (a .0) spare l) (fedSpare (a .0) spare l) (λ r e p. p)
 
 -- a close is its verdict and its progress
-made : Verdict → Progress → Closed
+made : ListVerdict → Progress → Closed
 made v p = record { verdict = v; progress = p }
 
 closed-one : (r q : Closed) → r .verdict ≡ q .verdict → r .progress ≡ q .progress → r ≡ q

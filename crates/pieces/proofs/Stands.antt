@@ -1,7 +1,7 @@
 -- Where a reading stands in its list: the progress after the first j words of a list, and the writes made so far, against the list's verdict and its
 -- expansion. Assumes nothing.
 use mathlib.Core.Path.{_≡_, refl, sym, ap, _∙_}
-use mathlib.Core.Bool.{Bool, true, false, _&&_}
+use mathlib.Core.Bool.{Bool, true, false, not, _&&_}
 use mathlib.Core.List.{List, [], _∷_, _++_, append-assoc}
 use Prim.Native.Nat.{ℕ, zero, suc, _+_, _-_, _%_, _≤_, _<_}
 use native.Mathlib.Decide.{decLt}
@@ -14,19 +14,42 @@ use borrow.Author.Tests.{le-ltb, eq-eqb, ne-eqb, eqb-true, eqb-false}
 use Rattle.numbers.specs.Pick.{pick}
 use Rattle.numbers.specs.Answer.{Answer, answered, refused}
 use Rattle.words.specs.Header.{idOf, maskOf, countOf, stepOf, wordsOf}
-use Rattle.words.specs.Writes.{Write, writing, faultOf}
+use Rattle.words.specs.Writes.{Write, writing, jumps, portData, faultOf}
 use Rattle.words.specs.Commands.{headerAt, paramAt, run, expand, commands, join, expansion}
 use Rattle.words.proofs.Laws.{commands-end, commands-step, run-done, run-next, expansion-of, join-none, join-more}
 use Rattle.reader.specs.ListVerdict.{firstFault, judge, verdict}
 use Rattle.reader.proofs.Judging.{run-none, run-good, run-bad, judge-end, judge-short, judge-fault, judge-pass, verdict-of}
 use Rattle.reader.proofs.Applying.{param-later}
-use Rattle.pieces.specs.Progress.{fresh, plus, firstOf, extra, padding, headed, started, passed, next, sound, makes, after, made, between, closing}
+use Rattle.pieces.specs.Progress.{fresh, plus, firstOf, extra, padding, headed, started, passed, next, sound, makes, after, made, between, faultNumber}
 use Rattle.pieces.specs.declared.Progress.{Progress}
 use Rattle.pieces.proofs.Steps.{Takes, takes-extra, takes-padding, takes-header, takes-first, takes-nothing, after-none, after-more, made-none, made-more}
 
 pub append-nil : {A : Type 0} (l : List A) → l ++ [] ≡ l
 append-nil [] = refl
 append-nil (a ∷ l) = ap (λ r. a ∷ r) (append-nil l)
+
+-- A FAULT'S NUMBER is 3, 4 or 5
+abbrev Known : ℕ → Type 0
+Known f = pick (eqb f 0) 0 (faultNumber f) ≡ f
+
+write-known : (a b c : Bool) → Known (pick a 3 (pick b 4 (pick c 5 0)))
+write-known true b c = refl
+write-known false true c = refl
+write-known false false true = refl
+write-known false false false = refl
+
+first-known : (b : Bool) (w : Write) (rest : ℕ) → Known rest → Known (pick b rest (faultOf (w .id) (w .mask)))
+unfolding faultOf
+first-known true w rest k = k
+first-known false w rest k = write-known (ltb 0x2FF (w .id)) (jumps (w .id)) (portData (w .id) && not (eqb (w .mask) 15))
+
+all-known : (ws : List Write) → Known (firstFault ws)
+unfolding firstFault
+all-known [] = refl
+all-known (w ∷ ws) = first-known (eqb (faultOf (w .id) (w .mask)) 0) w (firstFault ws) (all-known ws)
+
+number-known : (ws : List Write) (f : ℕ) → firstFault ws ≡ f → (f ≡ 0 → ⊥) → faultNumber f ≡ f
+number-known ws f e z = rw (e, ne-eqb f 0 z) at (all-known ws)
 
 module _ (l : List ℕ) where
   -- between two commands
@@ -76,7 +99,7 @@ module _ (l : List ℕ) where
     pub pad : p .pad ≡ 0
     pub begun : p .begun ≡ 0
     pub fault : p .fault ≡ 0 → ⊥
-    pub answer : refused (p .fault) (p .place) ≡ verdict l
+    pub answer : refused (faultNumber (p .fault)) (p .place) ≡ verdict l
 
   pub data Stands (j : ℕ) (p : Progress) (ws : List Write) : Type 0 where
     at-between : Between j p ws → Stands j p ws
@@ -148,7 +171,9 @@ module _ (l : List ℕ) where
           pad = omega arith;
           begun = s .begun;
           fault = f;
-          answer = sym (judge-fault l a (p .writes - (countOf h + 1)) (p .fault) (omega arith) (omega arith) bad f) ∙ s .answer;
+          answer =
+              rw (number-known (expand l a) (p .fault) bad f)
+              (sym (judge-fault l a (p .writes - (countOf h + 1)) (p .fault) (omega arith) (omega arith) bad f) ∙ s .answer);
         })
 
     settle-dec : Dec (0 < p .left + p .pad) → Stands j p ws

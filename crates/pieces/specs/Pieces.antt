@@ -1,5 +1,6 @@
--- A reader that is opened, fed parts and closed: what each call answers, the progress, and what it leaves of the two states. A buffer of
--- wrong length is refusal 6 at any of the three and changes nothing, the progress neither.
+-- A reader that is opened, fed parts and closed: what each call answers, the progress, which is the reader's memory, and what it leaves of
+-- the two states. A buffer of wrong length is refusal 6 at any of the three and changes nothing; a refused opening or feeding hands back no
+-- progress, so that the caller's stays.
 use mathlib.Core.Bool.{Bool, _&&_}
 use mathlib.Core.List.{List}
 use Prim.Native.Nat.{ℕ}

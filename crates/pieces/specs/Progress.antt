@@ -1,5 +1,18 @@
--- How far a reading has come, word by word: what each word of a list does to the progress, and the writes that it makes. A progress is
--- eleven numbers of 32 bits, and any of them may come in: one that no call made goes on by the same rules.
+-- How far a reading has come, word by word: what each word of a list does to the progress, and the writes that it makes. The progress is
+-- all that a reader keeps, eleven numbers of 32 bits:
+--   come    the words that have come, held at 65,537
+--   place   the first word of the command that is followed, counted from the list's start
+--   begun   1 where its first parameter has come and its header hasn't
+--   first   that parameter
+--   id      the id of its last write
+--   mask    its mask
+--   step    by how much its ids rise
+--   left    its extra parameters that are still to come
+--   pad     its padding words that are still to come
+--   writes  the writes of all commands whose headers have come
+--   fault   the number of the first fault, 0 for none; after a command at fault none is followed
+-- Any eleven numbers may come in: a progress that no call made goes on by the same rules. There a step may be any number, and a mask above
+-- 15 counts by its low four bits, but isn't Fh, so that port data is refused under it.
 use mathlib.Core.Bool.{Bool, _&&_}
 use mathlib.Core.List.{List, [], _∷_, _++_}
 use Prim.Native.Nat.{ℕ, _+_, _-_, _%_}
@@ -15,7 +28,7 @@ abbrev pub fresh : Progress
 fresh =
     record { come = 0; place = 0; begun = 0; first = 0; id = 0; mask = 0; step = 0; left = 0; pad = 0; writes = 0; fault = 0 }
 
--- a sum in a field of 32 bits; of a reading that was opened no sum comes near
+-- a sum in a field of 32 bits; of a reading that was opened no sum comes near. The words that have come are below 65,536 where one is added
 abbrev pub plus : ℕ → ℕ → ℕ
 plus a b = (a + b) % 0x100000000
 
@@ -23,9 +36,9 @@ plus a b = (a + b) % 0x100000000
 abbrev pub firstOf : ℕ → ℕ → ℕ
 firstOf f g = pick (eqb f 0) g f
 
--- the present command goes on: the words that have come, the id of its last write, its parameters and padding still to come, the fault
-abbrev pub going : Progress → ℕ → ℕ → ℕ → ℕ → ℕ → Progress
-going p come id left pad fault =
+-- p with these five, the rest as it was
+abbrev pub moved : Progress → ℕ → ℕ → ℕ → ℕ → ℕ → Progress
+moved p come id left pad fault =
     record {
       come = come;
       place = p .place;
@@ -42,17 +55,17 @@ going p come id left pad fault =
 
 -- A WORD COMES, and is one past the limit of 65,536: the words that have come are held at 65,537, and nothing more is done
 abbrev pub past : Progress → Progress
-past p = going p 65537 (p .id) (p .left) (p .pad) (p .fault)
+past p = moved p 65537 (p .id) (p .left) (p .pad) (p .fault)
 
 -- or an extra parameter: the next write's value
 abbrev pub extra : Progress → Progress
 extra p =
-    going p (p .come + 1) (plus (p .id) (p .step)) (p .left - 1) (p .pad)
+    moved p (p .come + 1) (plus (p .id) (p .step)) (p .left - 1) (p .pad)
     (firstOf (p .fault) (faultOf (plus (p .id) (p .step)) (p .mask)))
 
 -- or the padding word, which may be any
 abbrev pub padding : Progress → Progress
-padding p = going p (p .come + 1) (p .id) (p .left) (p .pad - 1) (p .fault)
+padding p = moved p (p .come + 1) (p .id) (p .left) (p .pad - 1) (p .fault)
 
 -- or the header: the first parameter is the first write's value, and one padding word follows if the words so far are odd in number
 abbrev pub headed : Progress → ℕ → Progress
@@ -90,22 +103,22 @@ started p x =
 
 -- or one after a command at fault: it counts, and nothing more
 abbrev pub passed : Progress → Progress
-passed p = going p (p .come + 1) (p .id) (p .left) (p .pad) (p .fault)
+passed p = moved p (p .come + 1) (p .id) (p .left) (p .pad) (p .fault)
 
 -- which of these a word is: the six cases, by one test after another
 abbrev pub byWord : {A : Type 0} → Progress → A → A → A → A → A → A → A
-byWord p over param fill head start idle =
-    pick (ltb 65535 (p .come)) over
-    (pick (ltb 0 (p .left)) param
-    (pick (ltb 0 (p .pad)) fill
-    (pick (ltb 0 (p .begun)) head
-    (pick (eqb (p .fault) 0) start idle))))
+byWord p ifPast ifExtra ifPadding ifHeader ifFirst ifPassed =
+    pick (ltb 65535 (p .come)) ifPast
+    (pick (ltb 0 (p .left)) ifExtra
+    (pick (ltb 0 (p .pad)) ifPadding
+    (pick (ltb 0 (p .begun)) ifHeader
+    (pick (eqb (p .fault) 0) ifFirst ifPassed))))
 
 -- THE PROGRESS AFTER ONE WORD
 unfoldable pub next : Progress → ℕ → Progress
 next p x = byWord p (past p) (extra p) (padding p) (headed p x) (started p x) (passed p)
 
--- a write is made unless there is a fault so far
+-- a write is made unless there is a fault so far, its own included
 abbrev pub sound : ℕ → Write → List Write
 sound fault w = pick (eqb fault 0) (w ∷ []) []
 
@@ -133,9 +146,9 @@ abbrev pub heldAt : ℕ → ℕ
 heldAt n = pick (ltb 65536 n) 65537 n
 
 abbrev pub counted : Progress → Progress
-counted p = going p (heldAt (p .come)) (p .id) (p .left) (p .pad) (p .fault)
+counted p = moved p (heldAt (p .come)) (p .id) (p .left) (p .pad) (p .fault)
 
--- no word of a command is still to come
+-- no word of the command that is followed is still to come
 abbrev pub between : Progress → Bool
 between p = eqb (p .left) 0 && eqb (p .pad) 0 && eqb (p .begun) 0
 
@@ -143,8 +156,8 @@ between p = eqb (p .left) 0 && eqb (p .pad) 0 && eqb (p .begun) 0
 abbrev pub faultNumber : ℕ → ℕ
 faultNumber f = pick (eqb f 3) 3 (pick (eqb f 4) 4 5)
 
--- THE VERDICT AT THE CLOSE: 1; then 2, where the last command lacks words, whatever its writes; then the first fault, at its command;
--- else the number of writes
+-- THE VERDICT AT THE CLOSE: 1; then 2, where the command that is followed lacks words, whatever its own writes; then the fault, at its
+-- command's first word; else the number of writes
 unfoldable pub closing : Progress → Answer
 closing p =
     pick (ltb 65536 (p .come)) (refused 1 0)

@@ -67,17 +67,7 @@ fn take_header(
 {
     let h = words::parts(x);
     let fault = first_fault(p.fault, h.id, h.mask);
-    put_sound(
-        cells,
-        fog,
-        light,
-        slots,
-        held,
-        fault,
-        h.id,
-        h.mask,
-        p.first,
-    );
+    put_sound(cells, fog, light, slots, held, fault, h.id, h.mask, p.first);
     let mut q = p;
     q.come = p.come + 1;
     q.begun = 0;

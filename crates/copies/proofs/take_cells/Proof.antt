@@ -3,7 +3,7 @@ use mathlib.Core.Path.{_≡_, sym, ap, _∙_}
 use Prim.Native.Nat.{ℕ, _+_, _-_, _≤_}
 use native.Mathlib.Omega.{arith}
 use lib.ListN.{length}
-use Rattle.copies.specs.Copy.{cellOf, taking}
+use Rattle.copies.specs.Copy.{cellTaking, taking}
 use Rattle.copies.proofs.Copies.{taking-none, taking-next}
 use borrow.Author.Needs.{needs}
 use Rattle.copies.proofs.take_cells.Statement.{statement}
@@ -15,7 +15,7 @@ use Rattle.registers.proofs.held.held_table.Reads as held-table-reads
 use Rattle.registers.proofs.held.slot_table.Reads as slot-table-reads
 
 abbrev Inv-loop : tie.InvT-loop
-Inv-loop to₀ from slots held i₀ to i = (i ≤ 768) × (length to ≡ 768) × (to ≡ taking cellOf i to₀ from)
+Inv-loop to₀ from slots held i₀ to i = (i ≤ 768) × (length to ≡ 768) × (to ≡ taking cellTaking i to₀ from)
 
 abbrev μ-loop : tie.MeasureT-loop
 μ-loop to₀ from slots held i₀ to i = 768 - i
@@ -32,7 +32,7 @@ held-table-requires c κs = search needs
 loop-holds : tie.Need-loop-holds Inv-loop μ-loop
 loop-holds c =
     let a = c .before .before .before .before .args in
-    (omega arith, search needs, sym (taking-none cellOf (a .to .now) (a .from .now)))
+    (omega arith, search needs, sym (taking-none cellTaking (a .to .now) (a .from .now)))
 
 id-of-requires : tie.Need-id-of-requires Inv-loop μ-loop
 id-of-requires c κs = search needs
@@ -80,7 +80,7 @@ loop-again c =
     let at-loop = at-id-of .before .before .before .before in
     let a = at-loop .before .before .before .before .before .args in
     let o = at-loop .loop in
-    (omega arith, search needs, rw (c .cell-taken .ensures, at-id-of .id-of .ensures, o .inv .2) (sym (taking-next cellOf (a .to .now) (a .from .now) (o .i))))
+    (omega arith, search needs, rw (c .cell-taken .ensures, at-id-of .id-of .ensures, o .inv .2) (sym (taking-next cellTaking (a .to .now) (a .from .now) (o .i))))
 
 -- src/lib.rt:237:1
 same-length : tie.Need-same-length Inv-loop μ-loop
@@ -92,7 +92,7 @@ returns c =
     let o = c .before .loop in
     let a = c .before .before .before .before .before .before .args in
     let d : o .i ≡ 768 = omega (arith, o .inv .0) in
-    o .inv .2 ∙ ap (λ (n : ℕ). taking cellOf n (a .to .now) (a .from .now)) d
+    o .inv .2 ∙ ap (λ (n : ℕ). taking cellTaking n (a .to .now) (a .from .now)) d
 
 pub take-cells-spec : {M : Type 1} → statement M
 take-cells-spec =

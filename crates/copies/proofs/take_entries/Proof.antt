@@ -3,7 +3,7 @@ use mathlib.Core.Path.{_≡_, sym, ap, _∙_}
 use Prim.Native.Nat.{ℕ, _+_, _-_, _≤_}
 use native.Mathlib.Omega.{arith}
 use lib.ListN.{length}
-use Rattle.copies.specs.Copy.{entryOf, taking}
+use Rattle.copies.specs.Copy.{entryTaking, taking}
 use Rattle.copies.proofs.Copies.{taking-none, taking-next}
 use borrow.Author.Needs.{needs}
 use Rattle.copies.proofs.take_entries.Statement.{statement}
@@ -13,7 +13,7 @@ use Rattle.copies.proofs.take_entries.Lts as lts
 use Rattle.copies.proofs.entry_taken.Reads as entry-taken-reads
 
 abbrev Inv-loop : tie.InvT-loop
-Inv-loop to₀ from i₀ to i = (i ≤ length from) × (length to ≡ length from) × (to ≡ taking entryOf i to₀ from)
+Inv-loop to₀ from i₀ to i = (i ≤ length from) × (length to ≡ length from) × (to ≡ taking entryTaking i to₀ from)
 
 abbrev μ-loop : tie.MeasureT-loop
 μ-loop to₀ from i₀ to i = length from - i
@@ -22,7 +22,7 @@ abbrev μ-loop : tie.MeasureT-loop
 loop-holds : tie.Need-loop-holds Inv-loop μ-loop
 loop-holds c =
     let a = c .before .before .args in
-    (omega arith, search needs, sym (taking-none entryOf (a .to .now) (a .from .now)))
+    (omega arith, search needs, sym (taking-none entryTaking (a .to .now) (a .from .now)))
 
 -- src/lib.rt:256:29
 mul-entry-taken : tie.Need-mul-entry-taken Inv-loop μ-loop
@@ -65,7 +65,7 @@ loop-again : tie.Need-loop-again Inv-loop μ-loop
 loop-again c =
     let o = c .before .before .before .before .loop in
     let a = c .before .before .before .before .before .before .before .args in
-    (omega arith, search needs, rw (c .entry-taken .ensures, o .inv .2) (sym (taking-next entryOf (a .to .now) (a .from .now) (o .i))))
+    (omega arith, search needs, rw (c .entry-taken .ensures, o .inv .2) (sym (taking-next entryTaking (a .to .now) (a .from .now) (o .i))))
 
 -- src/lib.rt:250:1
 same-length : tie.Need-same-length Inv-loop μ-loop
@@ -77,7 +77,7 @@ returns c =
     let o = c .before .loop in
     let a = c .before .before .before .before .args in
     let d : o .i ≡ length (a .from .now) = omega (arith, o .inv .0) in
-    o .inv .2 ∙ ap (λ (n : ℕ). taking entryOf n (a .to .now) (a .from .now)) d
+    o .inv .2 ∙ ap (λ (n : ℕ). taking entryTaking n (a .to .now) (a .from .now)) d
 
 pub take-entries-spec : {M : Type 1} → statement M
 take-entries-spec =
