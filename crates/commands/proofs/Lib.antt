@@ -1,0 +1,5 @@
+pub mod Runs
+pub mod Applying
+pub mod Uploads
+pub mod Same
+pub mod Clearing
