@@ -3,3 +3,4 @@ pub mod Applying
 pub mod Uploads
 pub mod Same
 pub mod Clearing
+pub mod Once
