@@ -19,7 +19,7 @@ use Rattle.words.specs.Commands.{headerAt, paramAt, run, expand, commands, join
 use Rattle.words.proofs.Laws.{commands-end, commands-step, run-done, run-next, expansion-of, join-none, join-more}
 use Rattle.reader.specs.ListVerdict.{firstFault, judge, verdict}
 use Rattle.reader.proofs.Judging.{run-none, run-good, run-bad, judge-end, judge-short, judge-fault, judge-pass, verdict-of}
-use Rattle.reader.proofs.Applying.{param-later}
+use Rattle.commands.proofs.Runs.{param-later}
 use Rattle.pieces.specs.Progress.{fresh, plus, firstOf, extra, padding, headed, started, passed, next, sound, makes, after, made, between, faultNumber}
 use Rattle.pieces.specs.declared.Progress.{Progress}
 use Rattle.pieces.proofs.Steps.{Takes, takes-extra, takes-padding, takes-header, takes-first, takes-nothing, after-none, after-more, made-none, made-more}

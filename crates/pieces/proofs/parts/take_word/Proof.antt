@@ -1,6 +1,6 @@
 -- Each way out is one of the six cases of a word. Assumes nothing.
 use mathlib.Core.Path.{_≡_, sym, _∙_}
-use Rattle.reader.proofs.Applying.{apply-none}
+use Rattle.commands.proofs.Applying.{apply-none}
 use Rattle.pieces.proofs.Steps.{takes-past, takes-extra, takes-padding, takes-header, takes-first, takes-nothing}
 use borrow.Author.Needs.{needs}
 use Rattle.pieces.proofs.parts.take_word.Statement.{statement}

@@ -1,8 +1,8 @@
 -- By the step. Assumes nothing.
 use borrow.Author.Tests.{eq-eqb, ne-eqb}
 use borrow.Author.Needs.{needs}
-use Rattle.reader.proofs.last_id.Statement.{statement}
-use Rattle.reader.proofs.last_id.Tie as tie
+use Rattle.commands.proofs.last_id.Statement.{statement}
+use Rattle.commands.proofs.last_id.Tie as tie
 
 add-result : tie.Need-add-result
 add-result c = search needs

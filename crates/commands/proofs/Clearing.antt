@@ -8,7 +8,7 @@ use borrow.Author.Tests.{leb-true, ltb-true, lt-leb, le-ltb, ne-eqb}
 use Rattle.numbers.specs.Pick.{within}
 use Rattle.numbers.proofs.Tests.{and-true}
 use Rattle.words.specs.Writes.{jumps, portData, faultOf}
-use Rattle.reader.specs.Clear.{clear}
+use Rattle.commands.specs.Clear.{clear}
 
 -- a range that ends below lo or starts above hi has no id of lo..hi
 apart : (b : Bool) (i j k lo hi : ℕ) → ltb j lo ≡ b → (b || ltb hi i) ≡ true → i ≤ k → k ≤ j → within lo hi k ≡ false
