@@ -72,7 +72,8 @@ fn last_value(first: u32, count: u32, last: u32) -> u32
     if count == 0 { first } else { last }
 }
 
-// A command to one id that is no port's data: of its values the last decides.
+// A command to one id that is no port's data: of its values the last decides. A word stands before `from`, so that there is one to look at
+// even where there are no others.
 fn apply_same(
     cells: &mut [u32],
     slots: &[u8; 256],
@@ -99,7 +100,7 @@ fn apply_same(
 }
 
 // The writes of a command with the header `h`, by what it writes to: a port's data, one other id, or ids that rise. Its first value is
-// `first`, the others stand in `list` from `from` on.
+// `first`, the others stand in `list` from `from` on, which is not its start.
 pub fn apply_run(
     cells: &mut [u32],
     fog: &mut [u32],
