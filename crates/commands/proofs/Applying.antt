@@ -24,7 +24,7 @@ pub apply-append : (s : State) (a b : List Write) → applyAll s (a ++ b) ≡ ap
 apply-append s [] b = rw (apply-none s)
 apply-append s (w ∷ a) b = apply-more s w (a ++ b) ∙ apply-append (apply s w) a b ∙ rw (apply-more s w a)
 
--- OF THE VALUES that stand in l from j on
+-- A RUN, of the values that stand in l from j on
 module _ (l : List ℕ) (m : ℕ) where
   pub run-applied : (s : State) (j n i d : ℕ) → n ≤ 0 → applyAll s (runFrom l j n i m d) ≡ s
   run-applied s j n i d z = rw (runFrom-done l j n i m d z) (apply-none s)

@@ -1,6 +1,6 @@
 -- The invariant: what is left of the command leads from here to the state that all of it leads to. Assumes nothing.
 use mathlib.Core.Path.{_≡_, refl, sym, _∙_}
-use Prim.Native.Nat.{_+_, _<_}
+use Prim.Native.Nat.{_+_}
 use native.Mathlib.Omega.{arith}
 use borrow.Author.Needs.{needs}
 use Rattle.registers.specs.State.{st, Lengths}
@@ -30,8 +30,11 @@ add-id c = search needs
 
 loop-holds : tie.Need-loop-holds Inv-loop μ-loop
 loop-holds c =
-    let p = c .before .before .before .before .before .before .before .put-one .kept in
-    let l = c .before .before .before .before .before .before .before .before .before .before .before .before .before .before .before .before .pre .0 .0 in
+    let at-put-one = c .before .before .before .before .before .before .before in
+    let at-spread-mask = at-put-one .before .before .before .before in
+    let at-start = at-spread-mask .before .before .before .before .before in
+    let p = at-put-one .put-one .kept in
+    let l = at-start .pre .0 .0 in
     ((omega (arith, p .0, l .0), omega (arith, p .1 .0, l .1), omega (arith, p .1 .1 .0, l .2)), refl, refl, refl)
 
 mul-put-one : tie.Need-mul-put-one Inv-loop μ-loop
@@ -47,15 +50,17 @@ add-j : tie.Need-add-j Inv-loop μ-loop
 add-j c =
     let at-loop-test = c .before .before .before .before .before .before .before .before .before .before .before in
     let at-loop = at-loop-test .before in
-    let at-start = at-loop .before .before .before .before .before .before .before .before .before .before .before .before .before .before .before .before .before in
+    let at-spread-mask = at-loop .before .before .before .before .before .before .before .before .before .before .before .before in
+    let at-start = at-spread-mask .before .before .before .before .before in
     let o = at-loop .loop in
-    omega (arith, at-start .fits, at-start .pre .1 .3, o .inv .1, at-loop-test .loop-test .taken)
+    omega (arith, at-start .good, at-start .pre .1 .3, o .inv .1, at-loop-test .loop-test .taken)
 
 add-id-2 : tie.Need-add-id-2 Inv-loop μ-loop
 add-id-2 c =
     let at-loop-test = c .before .before .before .before .before .before .before .before .before .before .before in
     let at-loop = at-loop-test .before in
-    let at-start = at-loop .before .before .before .before .before .before .before .before .before .before .before .before .before .before .before .before .before in
+    let at-spread-mask = at-loop .before .before .before .before .before .before .before .before .before .before .before .before in
+    let at-start = at-spread-mask .before .before .before .before .before in
     let o = at-loop .loop in
     omega (arith, at-start .pre .1 .0, at-start .pre .1 .1, o .inv .2, at-loop-test .loop-test .taken)
 
