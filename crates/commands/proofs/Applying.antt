@@ -24,15 +24,19 @@ pub apply-append : (s : State) (a b : List Write) → applyAll s (a ++ b) ≡ ap
 apply-append s [] b = rw (apply-none s)
 apply-append s (w ∷ a) b = apply-more s w (a ++ b) ∙ apply-append (apply s w) a b ∙ rw (apply-more s w a)
 
--- OF THE VALUES that stand in l from j on
+-- A RUN, of the values that stand in l from j on
 module _ (l : List ℕ) (m : ℕ) where
   pub run-applied : (s : State) (j n i d : ℕ) → n ≤ 0 → applyAll s (runFrom l j n i m d) ≡ s
   run-applied s j n i d z = rw (runFrom-done l j n i m d z) (apply-none s)
 
+  pub run-applies : (s : State) (j n i d : ℕ) → 0 < n
+      → applyAll s (runFrom l j n i m d) ≡ applyAll (put s i (spread m) (getD l j 0)) (runFrom l (j + 1) (n - 1) (i + d) m d)
+  run-applies s j n i d p = rw (runFrom-next l j n i m d p) (apply-more s _ _)
+
   -- to one id
   pub same-applies : (s : State) (j n i : ℕ) → 0 < n
       → applyAll s (runFrom l j n i m 0) ≡ applyAll (put s i (spread m) (getD l j 0)) (runFrom l (j + 1) (n - 1) i m 0)
-  same-applies s j n i p = let e : i + 0 ≡ i = omega arith in rw (runFrom-next l j n i m 0 p, e) (apply-more s _ _)
+  same-applies s j n i p = let e : i + 0 ≡ i = omega arith in rw e at (run-applies s j n i 0 p)
 
 -- A COMMAND TO ONE ID: its first write, and then the rest
 pub same-first : (h : Header) → h .step ≡ 0 → (s : State) (v : ℕ) (l : List ℕ) (j : ℕ)

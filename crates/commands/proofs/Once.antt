@@ -1,6 +1,6 @@
 -- The promise of each function that another crate can call settles its calls: any two answers that it allows, with what is then in the lent
 -- buffers, are equal. Assumes nothing.
-use mathlib.Core.Path.{_≡_, refl}
+use mathlib.Core.Path.{refl}
 use contract.Lifetimes.{Lfts}
 use borrow.Fn.Kinds.{Dens}
 use denote.Ref.{now}

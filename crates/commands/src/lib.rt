@@ -3,7 +3,9 @@
 ghost use mathlib.Core.Path.{_≡_};
 ghost use mathlib.Core.List.{List};
 ghost use Prim.Native.Nat.{ℕ, _+_, _≤_, _<_};
+ghost use lib.Dec.{eqb};
 ghost use lib.ListN.{length};
+ghost use Rattle.numbers.specs.Pick.{pick};
 ghost use Rattle.registers.specs.State.{st, Lengths};
 ghost use Rattle.registers.specs.Tables.{LookupTables};
 ghost use Rattle.registers.specs.Applied.{applyAll};
@@ -51,23 +53,27 @@ fn apply_rising(
 {
     let mask = h.mask;
     let bytes = ports::spread_mask(mask);
-    let mut id = h.id;
-    let mut value = first;
+    registers::put_one(cells, fog, light, slots, held, h.id, bytes, first);
+    let mut id = h.id + 1;
     let mut left = h.count;
     let mut j = from;
-    loop {
-        registers::put_one(cells, fog, light, slots, held, id, bytes, value);
-        if left == 0 {
-            return;
-        }
-        value = list[j];
+    while 0 < left {
+        registers::put_one(cells, fog, light, slots, held, id, bytes, list[j]);
         j += 1;
         id += 1;
         left -= 1;
     }
 }
 
-// A command to one id that is no port's data: its bits are looked up once, and its values go into the cell one after another.
+// The last of a command's values, where `last` is that of its extra parameters.
+fn last_value(first: u32, count: u32, last: u32) -> u32
+    ensures { λ r. ⌜ r ≡ pick (eqb count 0) first last ⌝ }
+{
+    if count == 0 { first } else { last }
+}
+
+// A command to one id that is no port's data: of its values the last decides. A word stands before `from`, so that there is one to look at
+// even where there are no others.
 fn apply_same(
     cells: &mut [u32],
     slots: &[u8; 256],
@@ -78,33 +84,23 @@ fn apply_same(
     from: usize,
 )
     requires { ⌜ (length (now cells) ≡ 768) × LookupTables (now slots) (now held) ⌝ }
-    requires { ⌜ ToOne h × (from + h .count ≤ length (now list)) ⌝ }
+    requires { ⌜ ToOne h × (from + h .count ≤ length (now list)) × (0 < from) ⌝ }
     ensures { λ _. ⌜
         ((fog light : List ℕ) → st (now (cells .exit)) fog light
         ≡ applyAll (st (now (cells .entry)) fog light) (runWith h first (now (list .entry)) from))
         ⌝ }
 {
-    let id = h.id;
-    let mask = h.mask;
-    let bits = registers::bits_held(slots, held, id);
+    let bits = registers::bits_held(slots, held, h.id);
     if bits == 0 {
         return;
     }
-    let i = id as usize;
-    let written = bits & ports::spread_mask(mask);
-    let mut cell = ports::merged(written, cells[i], first);
-    let mut left = h.count;
-    let mut j = from;
-    while 0 < left {
-        cell = ports::merged(written, cell, list[j]);
-        j += 1;
-        left -= 1;
-    }
-    cells[i] = cell;
+    let i = h.id as usize;
+    let value = last_value(first, h.count, list[from + h.count as usize - 1]);
+    cells[i] = ports::merged(bits & ports::spread_mask(h.mask), cells[i], value);
 }
 
 // The writes of a command with the header `h`, by what it writes to: a port's data, one other id, or ids that rise. Its first value is
-// `first`, the others stand in `list` from `from` on.
+// `first`, the others stand in `list` from `from` on, which is not its start.
 pub fn apply_run(
     cells: &mut [u32],
     fog: &mut [u32],
@@ -117,7 +113,9 @@ pub fn apply_run(
     from: usize,
 )
     requires { ⌜ Lengths (now cells) (now fog) (now light) × LookupTables (now slots) (now held) ⌝ }
-    requires { ⌜ (h .id < 0x20000) × (h .count < 256) × (h .step ≤ 1) × (from + h .count ≤ length (now list)) ⌝ }
+    requires { ⌜
+        (h .id < 0x20000) × (h .count < 256) × (h .step ≤ 1) × (from + h .count ≤ length (now list)) × (0 < from)
+        ⌝ }
     ensures { λ _. ⌜
         st (now (cells .exit)) (now (fog .exit)) (now (light .exit))
         ≡ applyAll (st (now (cells .entry)) (now (fog .entry)) (now (light .entry))) (runWith h first (now (list .entry)) from)
