@@ -1,7 +1,8 @@
 /*
- * Ilgadeuk's C functions: command lists of the PICA200 read, taken apart, written, decoded and packed, and one fragment's result.
+ * Ilgadeuk's C functions: command lists of the PICA200 read, whole or in pieces, taken apart, written, decoded and packed, and one
+ * fragment's result.
  *
- * This is the header of version 0.2.0, and goes with the libpica.a of that version, which stands beside it where both come from
+ * This is the header of version 0.3.0, and goes with the libpica.a of that version, which stands beside it where both come from
  * one build; CHANGELOG.md has what each version brought. The library needs nothing but the C library. Where it is installed,
  *
  *     cc replayer.c $(pkg-config --cflags --libs pica)
@@ -17,9 +18,10 @@
  * the caller: the library keeps nothing between calls and allocates nothing. The functions ask only that the pointers and lengths
  * are true:
  *   - a pointer is aligned for uint32_t, and its length's words are there. For a length of 0 any pointer will do, null too, as an
- *     empty std::vector may give it; the buffers whose length is fixed, fields, given and stored, are never null;
+ *     empty std::vector may give it; the buffers whose length is fixed, reader, fields, given and stored, are never null;
  *   - a buffer that a call writes to overlaps no other that it is lent.
- * Everything else is answered or refused, whatever the words are. A refused call changes no buffer.
+ * Everything else is answered or refused, whatever the words are. A refused call changes no buffer, but for pica_close, which
+ * then makes the reader and the spare state ready for the next list.
  *
  * A STATE is three buffers: 768 register cells (the cell of register i is cells[i]), 128 fog entries, and 6,144 light entries
  * (entry k of table t is light[256 * t + k]). Of a cell only the bits that the register holds count, of an entry only the low 24;
@@ -63,7 +65,7 @@ extern "C" {
  * #if PICA_VERSION >= 2000 asks for 0.2.0 or a later one.
  */
 #define PICA_VERSION_MAJOR 0
-#define PICA_VERSION_MINOR 2
+#define PICA_VERSION_MINOR 3
 #define PICA_VERSION_PATCH 0
 #define PICA_VERSION (PICA_VERSION_MAJOR * 1000000 + PICA_VERSION_MINOR * 1000 + PICA_VERSION_PATCH)
 
@@ -71,6 +73,7 @@ extern "C" {
 #define PICA_CELLS_LENGTH 768
 #define PICA_FOG_LENGTH 128
 #define PICA_LIGHT_LENGTH 6144
+#define PICA_READER 11
 #define PICA_FIELDS_LENGTH 204
 #define PICA_GIVEN_LENGTH 11
 #define PICA_STORED_LENGTH 3
@@ -126,6 +129,65 @@ static inline uint32_t pica_value(uint64_t answer) { return (uint32_t)answer; }
  */
 uint64_t pica_read(uint32_t *cells, size_t cells_length, uint32_t *fog, size_t fog_length, uint32_t *light, size_t light_length,
                    const uint32_t *list, size_t list_length);
+
+/*
+ * A LIST IN PIECES is opened, fed part after part as it comes, and closed. Verdict, place and live state are then those of
+ * pica_read on the parts joined, wherever they were cut; no more of them is kept than the reader's words. The writes go to a spare
+ * state, lent beside the live one, so that the live state is as it was until the close:
+ *
+ *     uint32_t reader[PICA_READER];
+ *     pica_open(cells, 768, fog, 128, light, 6144, spare_cells, 768, spare_fog, 128, spare_light, 6144, reader);
+ *     while ((n = receive(part)) != 0)
+ *         pica_feed(spare_cells, 768, spare_fog, 128, spare_light, 6144, reader, part, n);
+ *     answer = pica_close(cells, 768, fog, 128, light, 6144, spare_cells, 768, spare_fog, 128, spare_light, 6144, reader);
+ *
+ * Nobody else is to write to either state from the opening to the close: an accepted close takes what was written to the spare for
+ * the list's own, and what was written to the live state is lost. The first of the reader's words is the number of words that have
+ * come. Any words may stand there, also some that no call left: each call is then still answered, or refused by 1 to 6.
+ */
+
+/*
+ * Opens a list that arrives in pieces.
+ *
+ * Answers 0.
+ * Refuses 6 at 0, for a buffer of either state.
+ * cells, fog, light: only read.
+ * spare_cells, spare_fog, spare_light: take the bits that count of the live state; all their other bits stay. On a refusal they are
+ * as they were.
+ * reader: zeros, whatever stood there; on a refusal as it was.
+ */
+uint64_t pica_open(const uint32_t *cells, size_t cells_length, const uint32_t *fog, size_t fog_length, const uint32_t *light,
+                   size_t light_length, uint32_t *spare_cells, size_t spare_cells_length, uint32_t *spare_fog,
+                   size_t spare_fog_length, uint32_t *spare_light, size_t spare_light_length, uint32_t reader[PICA_READER]);
+
+/*
+ * Feeds the next part of the list, of any length, 0 too.
+ *
+ * Answers how many words have come since the opening. Past 65,536, where the close will refuse 1, it stays at 65,537.
+ * Refuses 6 at 0, and counts no word: the part can be fed again. What is wrong with the list is told by the close alone.
+ * spare_cells, spare_fog, spare_light: changed as the part's writes say, up to the list's first one at fault; on a refusal as they
+ * were.
+ * reader: goes on by the part's words; on a refusal as it was.
+ * part: only read.
+ */
+uint64_t pica_feed(uint32_t *spare_cells, size_t spare_cells_length, uint32_t *spare_fog, size_t spare_fog_length,
+                   uint32_t *spare_light, size_t spare_light_length, uint32_t reader[PICA_READER], const uint32_t *part,
+                   size_t part_length);
+
+/*
+ * Closes the list.
+ *
+ * Answers the number of its writes.
+ * Refuses 6 at 0, for a buffer of either state; then 1 at 0, and for each command in turn 2, or 3, 4 or 5, as pica_read does, with
+ * the index in the whole list as place.
+ * cells, fog, light: take the bits that count of the spare state; on a refusal as they were.
+ * spare_cells, spare_fog, spare_light: as they were; on a refusal other than 6 they take the bits that count of the live state.
+ * reader: zeros, as freshly opened; on refusal 6 as it was.
+ * So after an answer, and after a refusal other than 6, the next list can be fed at once.
+ */
+uint64_t pica_close(uint32_t *cells, size_t cells_length, uint32_t *fog, size_t fog_length, uint32_t *light, size_t light_length,
+                    uint32_t *spare_cells, size_t spare_cells_length, uint32_t *spare_fog, size_t spare_fog_length,
+                    uint32_t *spare_light, size_t spare_light_length, uint32_t reader[PICA_READER]);
 
 /*
  * Applies a single write to a state. Bit 0 of the mask stands for the lowest byte of the value.

@@ -25,7 +25,7 @@ use Rattle.reader.specs.ListVerdict.{verdict, allAllowed}
 use Rattle.reader.specs.declared.ListVerdict.{ListVerdict}
 use Rattle.reader.specs.declared.ListVerdict.the-variants as list-verdict
 use Rattle.reader.proofs.Accepted.{verdict-accepted}
-use Rattle.reader.proofs.Applying.{apply-none, apply-more}
+use Rattle.commands.proofs.Applying.{apply-none, apply-more}
 use Rattle.reader.proofs.Once.{told-one}
 use Rattle.writes.specs.Listed.{writesAnswer}
 use Rattle.runs.specs.PackedList.{writes, Packable, packed}

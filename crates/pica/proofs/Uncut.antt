@@ -1,4 +1,5 @@
--- No answer and no place is cut by the low 32 bits of a call: none is above 65,536. Assumes nothing.
+-- No answer and no place is cut by the low 32 bits of a call: none is above 65,537, but for a close from a reader's words that no call
+-- left, where it is one of those words. Assumes nothing.
 use mathlib.Core.Path.{_≡_, refl}
 use mathlib.Core.Bool.{Bool, true, false, _&&_}
 use mathlib.Core.List.{List, [], _∷_}
@@ -6,7 +7,7 @@ use Prim.Native.Nat.{ℕ, zero, suc, _+_, _-_, _*_, _≤_, _<_}
 use native.Mathlib.Omega.{arith}
 use lib.Dec.{ltb, leb, eqb}
 use lib.ListN.{length}
-use borrow.Author.Tests.{ltb-true, leb-true}
+use borrow.Author.Tests.{ltb-true, ltb-false, leb-true}
 use Rattle.numbers.specs.Pick.{pick}
 use Rattle.numbers.specs.Answer.{Answer, answered, refused, unlessFault}
 use Rattle.numbers.specs.Room.{level, andThen, ifRoom}
@@ -22,6 +23,11 @@ use Rattle.registers.specs.Single.{atZero, refusalOf, writeAnswer}
 use Rattle.reader.specs.ListVerdict.{firstFault, commandFault, judge, verdict}
 use Rattle.reader.specs.Read.{readAnswer}
 use Rattle.reader.proofs.Accepted.{verdict-accepted}
+use Rattle.pieces.specs.Progress.{fresh, after, counted, between, faultNumber, closing}
+use Rattle.pieces.specs.Pieces.{wrongLength, bothSized, opening, feeding, closeAnswer}
+use Rattle.pieces.specs.Pieces as pieces
+use Rattle.pieces.specs.declared.Progress.{Progress}
+use Rattle.pieces.specs.declared.Going.the-variants.{Come}
 use Rattle.writes.specs.Listed.{writesAnswer}
 use Rattle.runs.specs.PackedList.{writes, packed}
 use Rattle.runs.proofs.PackedList.{packed-short}
@@ -51,7 +57,7 @@ valueIn (answered n) = n
 valueIn (refused r p) = p
 
 -- so a call has it whole
-pub uncut : (number value : ℕ) → value ≤ 65536 → call number value ≡ number * 0x100000000 + value
+pub uncut : (number value : ℕ) → value < 0x100000000 → call number value ≡ number * 0x100000000 + value
 uncut number value h = omega arith
 
 -- READING
@@ -96,6 +102,47 @@ by-length l false b e = omega arith
 pub read-uncut : (s : State) (l : List ℕ) → valueIn (readAnswer s l) ≤ 65536
 unfolding readAnswer
 read-uncut s l = by-length l (sized s) (leb (length l) 65536) refl
+
+-- READING IN PIECES
+
+pub open-uncut : (live spare : State) → valueIn (pieces.told (opening live spare)) ≡ 0
+unfolding opening
+open-uncut live spare = go (bothSized live spare)
+  where
+    go : (b : Bool) → valueIn (pieces.told (pick b (Come fresh) wrongLength)) ≡ 0
+    go true = refl
+    go false = refl
+
+held-below : (n : ℕ) (b : Bool) → ltb 65536 n ≡ b → pick b 65537 n ≤ 65537
+held-below n true e = omega arith
+held-below n false e = let h : n ≤ 65536 = ltb-false _ _ e in omega arith
+
+pub feed-uncut : (p : Progress) (spare : State) (l : List ℕ) → valueIn (pieces.told (feeding p spare l)) ≤ 65537
+unfolding feeding
+feed-uncut p spare l = go (sized spare)
+  where
+    go : (b : Bool) → valueIn (pieces.told (pick b (Come (counted (after p l))) wrongLength)) ≤ 65537
+    go true = held-below (after p l .come) (ltb 65536 (after p l .come)) refl
+    go false = omega arith
+
+-- the reader's words are of 32 bits
+pub close-uncut : (p : Progress) (live spare : State) → p .place < 0x100000000 → p .writes < 0x100000000
+    → valueIn (closeAnswer p live spare) < 0x100000000
+unfolding closeAnswer closing
+close-uncut p live spare h g = go (bothSized live spare) (ltb 65536 (p .come)) (between p) (eqb (p .fault) 0)
+  where
+    go : (a b c d : Bool)
+        → valueIn
+        (pick a
+        (pick b (refused 1 0)
+        (pick c (pick d (answered (p .writes)) (refused (faultNumber (p .fault)) (p .place))) (refused 2 (p .place))))
+        (refused 6 0))
+        < 0x100000000
+    go true true c d = omega arith
+    go true false true true = g
+    go true false true false = h
+    go true false false d = h
+    go false b c d = omega arith
 
 -- ONE WRITE
 

@@ -6,20 +6,25 @@ ghost use Rattle.words.specs.Writes.{writing};
 ghost use Rattle.registers.specs.State.{st};
 ghost use Rattle.registers.specs.Single.{writeAnswer, writeState};
 ghost use Rattle.reader.specs.Read.{readAnswer, readState};
+ghost use Rattle.pieces.specs.Pieces.{opening, openedSpare, feeding, fedSpare, closeAnswer, closeProgress, closedLive, closedSpare};
+ghost use Rattle.pieces.specs.Pieces as pieces;
 ghost use Rattle.writes.specs.Listed.{writesAnswer, writesIds, writesMasks, writesValues};
 ghost use Rattle.packer.specs.Packing.{packAnswer, packSpace};
 ghost use Rattle.decode.specs.Decoded.{decodedOf};
 ghost use Rattle.stores.specs.Tests.{verdictNumber};
 ghost use Rattle.pica.specs.Calls.{call, answer, decodeCall, fieldsAfter, fragmentOf, fragmentCall, storedWordsAfter};
+ghost use Rattle.pica.specs.Readers.{progressOf, wordsOf, readerAfter};
 use decode::Decoded;
 use fragment::Drawn;
 use packer::Packed;
+use pieces::Going;
 use reader::ListVerdict;
 use registers::Written;
 use stores::Verdict;
 use words::Refusal;
 
 mod colours;
+mod readers;
 
 // A refusal's number above, a place or an answer below.
 fn told(number: u32, value: usize) -> u64
@@ -47,6 +52,134 @@ pub extern "C" fn pica_read(
     match reader::read(cells, fog, light, list) {
         ListVerdict::Accepted(n) => told(0, n),
         ListVerdict::Refused(why) => told(why.number, why.place),
+    }
+}
+
+// How a reading goes on, laid into the reader and told: the words that have come, or the refusal.
+fn told_going(reader: &mut [u32; 11], g: Going) -> u64
+    ensures answer { λ r. ⌜ r ≡ answer (pieces.told g) ⌝ }
+    ensures reader { λ _. ⌜ now (reader .exit) ≡ readerAfter g (now (reader .entry)) ⌝ }
+{
+    match g {
+        Going::Come(p) => {
+            let come = p.come;
+            *reader = readers::words_of(p);
+            told(0, come as usize)
+        }
+        Going::Refused(why) => told(why.number, why.place),
+    }
+}
+
+// A list that arrives in pieces is opened: 0.
+#[no_mangle]
+pub extern "C" fn pica_open(
+    cells: &[u32],
+    fog: &[u32],
+    light: &[u32],
+    spare_cells: &mut [u32],
+    spare_fog: &mut [u32],
+    spare_light: &mut [u32],
+    reader: &mut [u32; 11],
+) -> u64
+    ensures answer { λ r. ⌜
+        r
+        ≡ answer
+        (pieces.told
+        (opening (st (now (cells .entry)) (now (fog .entry)) (now (light .entry)))
+        (st (now («spare_cells» .entry)) (now («spare_fog» .entry)) (now («spare_light» .entry)))))
+        ⌝ }
+    ensures reader { λ _. ⌜
+        now (reader .exit)
+        ≡ readerAfter
+        (opening (st (now (cells .entry)) (now (fog .entry)) (now (light .entry)))
+        (st (now («spare_cells» .entry)) (now («spare_fog» .entry)) (now («spare_light» .entry))))
+        (now (reader .entry))
+        ⌝ }
+    ensures spare { λ _. ⌜
+        st (now («spare_cells» .exit)) (now («spare_fog» .exit)) (now («spare_light» .exit))
+        ≡ openedSpare (st (now (cells .entry)) (now (fog .entry)) (now (light .entry)))
+        (st (now («spare_cells» .entry)) (now («spare_fog» .entry)) (now («spare_light» .entry)))
+        ⌝ }
+{
+    let went = pieces::open(cells, fog, light, spare_cells, spare_fog, spare_light);
+    told_going(reader, went)
+}
+
+// A part of the list is fed: how many words have come, held at 65,537.
+#[no_mangle]
+pub extern "C" fn pica_feed(
+    spare_cells: &mut [u32],
+    spare_fog: &mut [u32],
+    spare_light: &mut [u32],
+    reader: &mut [u32; 11],
+    part: &[u32],
+) -> u64
+    ensures answer { λ r. ⌜
+        r
+        ≡ answer
+        (pieces.told
+        (feeding (progressOf (now (reader .entry))) (st (now («spare_cells» .entry)) (now («spare_fog» .entry)) (now («spare_light» .entry)))
+        (now (part .entry))))
+        ⌝ }
+    ensures reader { λ _. ⌜
+        now (reader .exit)
+        ≡ readerAfter
+        (feeding (progressOf (now (reader .entry))) (st (now («spare_cells» .entry)) (now («spare_fog» .entry)) (now («spare_light» .entry)))
+        (now (part .entry)))
+        (now (reader .entry))
+        ⌝ }
+    ensures spare { λ _. ⌜
+        st (now («spare_cells» .exit)) (now («spare_fog» .exit)) (now («spare_light» .exit))
+        ≡ fedSpare (progressOf (now (reader .entry))) (st (now («spare_cells» .entry)) (now («spare_fog» .entry)) (now («spare_light» .entry)))
+        (now (part .entry))
+        ⌝ }
+{
+    let p = readers::progress_of(reader);
+    let went = pieces::feed(p, spare_cells, spare_fog, spare_light, part);
+    told_going(reader, went)
+}
+
+// The list is closed: the number of its writes.
+#[no_mangle]
+pub extern "C" fn pica_close(
+    cells: &mut [u32],
+    fog: &mut [u32],
+    light: &mut [u32],
+    spare_cells: &mut [u32],
+    spare_fog: &mut [u32],
+    spare_light: &mut [u32],
+    reader: &mut [u32; 11],
+) -> u64
+    ensures answer { λ r. ⌜
+        r
+        ≡ answer
+        (closeAnswer (progressOf (now (reader .entry))) (st (now (cells .entry)) (now (fog .entry)) (now (light .entry)))
+        (st (now («spare_cells» .entry)) (now («spare_fog» .entry)) (now («spare_light» .entry))))
+        ⌝ }
+    ensures reader { λ _. ⌜
+        now (reader .exit)
+        ≡ wordsOf
+        (closeProgress (progressOf (now (reader .entry))) (st (now (cells .entry)) (now (fog .entry)) (now (light .entry)))
+        (st (now («spare_cells» .entry)) (now («spare_fog» .entry)) (now («spare_light» .entry))))
+        ⌝ }
+    ensures live { λ _. ⌜
+        st (now (cells .exit)) (now (fog .exit)) (now (light .exit))
+        ≡ closedLive (progressOf (now (reader .entry))) (st (now (cells .entry)) (now (fog .entry)) (now (light .entry)))
+        (st (now («spare_cells» .entry)) (now («spare_fog» .entry)) (now («spare_light» .entry)))
+        ⌝ }
+    ensures spare { λ _. ⌜
+        st (now («spare_cells» .exit)) (now («spare_fog» .exit)) (now («spare_light» .exit))
+        ≡ closedSpare (progressOf (now (reader .entry))) (st (now (cells .entry)) (now (fog .entry)) (now (light .entry)))
+        (st (now («spare_cells» .entry)) (now («spare_fog» .entry)) (now («spare_light» .entry)))
+        ⌝ }
+{
+    let p = readers::progress_of(reader);
+    let closed = pieces::close(p, cells, fog, light, spare_cells, spare_fog, spare_light);
+    let verdict = closed.verdict;
+    *reader = readers::words_of(closed.progress);
+    match verdict {
+        ListVerdict::Accepted(made) => told(0, made),
+        ListVerdict::Refused(fault) => told(fault.number, fault.place),
     }
 }
 

@@ -14,9 +14,9 @@ use Rattle.words.specs.Header.{idOf, maskOf, countOf, stepOf, wordsOf}
 use Rattle.words.specs.Writes.{Write, faultOf}
 use Rattle.words.specs.Commands.{headerAt, run, expand, commands}
 use Rattle.words.proofs.Laws.{commands-end, commands-step, run-done, run-next, run-length}
+use Rattle.commands.specs.Clear.{lastId, clear}
+use Rattle.commands.proofs.Clearing.{clear-fault}
 use Rattle.reader.specs.ListVerdict.{firstFault, judge, verdict}
-use Rattle.reader.specs.Clear.{lastId, clear}
-use Rattle.reader.proofs.Clearing.{clear-fault}
 use Rattle.reader.proofs.Accepted.{judge-none, judge-more}
 
 -- A RUN OF WRITES

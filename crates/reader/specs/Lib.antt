@@ -1,4 +1,2 @@
-pub mod Clear
-pub mod ToOne
 pub mod ListVerdict
 pub mod Read

@@ -1,19 +1,13 @@
-// A list read into a state: judged whole, and then applied. The contracts cite specs/ListVerdict.antt and specs/Read.antt, and for the
-// code's own steps specs/Clear.antt and specs/ToOne.antt.
+// A list read into a state: judged whole, and then applied. The contracts cite specs/ListVerdict.antt and specs/Read.antt.
 ghost use mathlib.Core.Path.{_≡_};
 ghost use mathlib.Core.Bool.{true};
-ghost use mathlib.Core.List.{List};
-ghost use Prim.Native.Nat.{ℕ, _+_, _≤_, _<_};
-ghost use lib.ListN.{length};
+ghost use Prim.Native.Nat.{_+_, _<_};
 ghost use Rattle.numbers.specs.Pick.{pick};
-ghost use Rattle.words.specs.Header.{stepOf, wordsOf};
-ghost use Rattle.words.specs.Commands.{headerAt, expand, expansion, wellFormed};
+ghost use Rattle.words.specs.Commands.{expansion, wellFormed};
 ghost use Rattle.registers.specs.State.{st, Lengths};
-ghost use Rattle.registers.specs.Tables.{LookupTables};
 ghost use Rattle.registers.specs.Applied.{applyAll};
-ghost use Rattle.reader.specs.ToOne.{ToOne};
+ghost use Rattle.commands.specs.Clear.{lastId, clear};
 ghost use Rattle.reader.specs.ListVerdict.{verdict};
-ghost use Rattle.reader.specs.Clear.{lastId, clear};
 ghost use Rattle.reader.specs.Read.{told, readAnswer, readState};
 use words::Head;
 use words::Refusal;
@@ -23,30 +17,12 @@ pub enum ListVerdict {
     Refused(Refusal),
 }
 
-// The last id of a command with `count` extra parameters.
-fn last_id(id: u32, count: u32, step: u32) -> u32
-    requires { ⌜ (id < 0x10000) × (count < 256) ⌝ }
-    ensures { λ r. ⌜ r ≡ lastId id count step ⌝ }
-{
-    if step == 0 { id } else { id + count }
-}
-
-// No write to an id of first..last under `mask` can be at fault: the range ends below 300h and meets neither a jump register nor, but for
-// mask Fh, a port's data.
-fn is_clear(first: u32, last: u32, mask: u32) -> bool
-    ensures { λ r. ⌜ r ≡ clear first last mask ⌝ }
-{
-    (last <= 0x2FF)
-        & ((last < 0x23C) | (0x23D < first))
-        & ((mask == 15) | ((last < 0xE8) | (0xEF < first)) & ((last < 0x1C8) | (0x1CF < first)))
-}
-
 // How many of a command's writes need a look: all of them where one can be at fault, and none else.
 fn deciding(id: u32, mask: u32, count: u32, step: u32) -> u32
     requires { ⌜ (id < 0x10000) × (count < 256) ⌝ }
     ensures { λ r. ⌜ r ≡ pick (clear id (lastId id count step) mask) 0 (count + 1) ⌝ }
 {
-    if is_clear(id, last_id(id, count, step), mask) {
+    if commands::is_clear(id, commands::last_id(id, count, step), mask) {
         0
     } else {
         count + 1
@@ -85,104 +61,6 @@ pub fn judge_list(list: &[u32]) -> ListVerdict
     }
 }
 
-// The command at `at` to rising ids, one write after another: the first value stands before the header, the others after it.
-fn apply_rising(
-    cells: &mut [u32],
-    fog: &mut [u32],
-    light: &mut [u32],
-    slots: &[u8; 256],
-    held: &[u32; 132],
-    list: &[u32],
-    at: usize,
-)
-    requires { ⌜ Lengths (now cells) (now fog) (now light) × LookupTables (now slots) (now held) ⌝ }
-    requires { ⌜ (at + wordsOf (headerAt (now list) at) ≤ length (now list)) × (stepOf (headerAt (now list) at) ≡ 1) ⌝ }
-    ensures { λ _. ⌜
-        st (now (cells .exit)) (now (fog .exit)) (now (light .exit))
-        ≡ applyAll (st (now (cells .entry)) (now (fog .entry)) (now (light .entry))) (expand (now (list .entry)) at)
-        ⌝ }
-{
-    let h = words::parts(list[at + 1]);
-    let bytes = ports::spread_mask(h.mask);
-    let mut id = h.id;
-    let mut left = h.count + 1;
-    let mut j = at;
-    let mut next: usize = 2;
-    while 0 < left {
-        registers::put_one(cells, fog, light, slots, held, id, bytes, list[j]);
-        j += next;
-        next = 1;
-        id += 1;
-        left -= 1;
-    }
-}
-
-// The command at `at` to one id that is no port's data: its bits are looked up once, and its values go into the cell one after another.
-fn apply_same(cells: &mut [u32], slots: &[u8; 256], held: &[u32; 132], list: &[u32], at: usize)
-    requires { ⌜
-        (length (now cells) ≡ 768) × LookupTables (now slots) (now held) × (at + wordsOf (headerAt (now list) at) ≤ length (now list))
-        ⌝ }
-    requires { ⌜ ToOne (headerAt (now list) at) ⌝ }
-    ensures { λ _. ⌜
-        ((fog light : List ℕ) → st (now (cells .exit)) fog light
-        ≡ applyAll (st (now (cells .entry)) fog light) (expand (now (list .entry)) at))
-        ⌝ }
-{
-    let h = words::parts(list[at + 1]);
-    let id = h.id;
-    let bits = registers::bits_held(slots, held, id);
-    if bits == 0 {
-        return;
-    }
-    let i = id as usize;
-    let written = bits & ports::spread_mask(h.mask);
-    let mut cell = ports::merged(written, cells[i], list[at]);
-    let mut left = h.count;
-    let mut j = at + 2;
-    while 0 < left {
-        cell = ports::merged(written, cell, list[j]);
-        j += 1;
-        left -= 1;
-    }
-    cells[i] = cell;
-}
-
-// The command at `at`, by what it writes to: a port's data, one other id, or ids that rise.
-fn apply_at(
-    cells: &mut [u32],
-    fog: &mut [u32],
-    light: &mut [u32],
-    slots: &[u8; 256],
-    held: &[u32; 132],
-    list: &[u32],
-    at: usize,
-)
-    requires { ⌜ Lengths (now cells) (now fog) (now light) × LookupTables (now slots) (now held) ⌝ }
-    requires { ⌜ at + wordsOf (headerAt (now list) at) ≤ length (now list) ⌝ }
-    ensures { λ _. ⌜
-        st (now (cells .exit)) (now (fog .exit)) (now (light .exit))
-        ≡ applyAll (st (now (cells .entry)) (now (fog .entry)) (now (light .entry))) (expand (now (list .entry)) at)
-        ⌝ }
-{
-    let h = words::parts(list[at + 1]);
-    let id = h.id;
-    if h.step != 0 {
-        apply_rising(cells, fog, light, slots, held, list, at);
-        return;
-    }
-    if (0xE8 <= id) & (id <= 0xEF) {
-        ports::put_fog(cells, fog, list[at]);
-        ports::upload_fog(cells, fog, list, at + 2, h.count);
-        return;
-    }
-    if (0x1C8 <= id) & (id <= 0x1CF) {
-        ports::put_light(cells, light, list[at]);
-        ports::upload_light(cells, light, list, at + 2, h.count);
-        return;
-    }
-    apply_same(cells, slots, held, list, at);
-}
-
 // A well-formed list's expansion, one masked write after another.
 fn apply_list(cells: &mut [u32], fog: &mut [u32], light: &mut [u32], list: &[u32])
     requires { ⌜ Lengths (now cells) (now fog) (now light) × (wellFormed (now list) ≡ true) ⌝ }
@@ -195,8 +73,9 @@ fn apply_list(cells: &mut [u32], fog: &mut [u32], light: &mut [u32], list: &[u32
     let held = registers::held::held_table();
     let mut at = 0;
     while at < list.len() {
-        let taken = words::words_taken(words::parts(list[at + 1]));
-        apply_at(cells, fog, light, &slots, &held, list, at);
+        let h = words::parts(list[at + 1]);
+        let taken = words::words_taken(h);
+        commands::apply_run(cells, fog, light, &slots, &held, h, list[at], list, at + 2);
         at += taken;
     }
 }

@@ -10,6 +10,7 @@ use Rattle.words.specs.Commands.{commands, join, full}
 use Rattle.words.proofs.Laws.{expansion-of, formed-of}
 use Rattle.registers.specs.State.{st, Lengths}
 use Rattle.registers.specs.Applied.{applyAll}
+use Rattle.commands.proofs.Runs.{expand-from}
 use Rattle.reader.proofs.Applying.{join-applied, join-applies, full-next}
 use Rattle.reader.proofs.apply_list.Statement.{statement}
 use Rattle.reader.proofs.apply_list.Tie as tie
@@ -53,16 +54,29 @@ parts-requires c κs = search needs
 words-taken-requires : tie.Need-words-taken-requires Inv-loop μ-loop
 words-taken-requires c κs = search needs
 
-apply-at-requires : tie.Need-apply-at-requires Inv-loop μ-loop
-apply-at-requires c κs =
-    let at-loop-test = c .before .before .before .before .before .before .before .before in
+mul-apply-run : tie.Need-mul-apply-run Inv-loop μ-loop
+mul-apply-run c = search needs
+
+shared-slice-read-apply-run : tie.Need-shared-slice-read-apply-run Inv-loop μ-loop
+shared-slice-read-apply-run c = search needs
+
+add-apply-run : tie.Need-add-apply-run Inv-loop μ-loop
+add-apply-run c = search needs
+
+apply-run-requires : tie.Need-apply-run-requires Inv-loop μ-loop
+apply-run-requires c κs =
+    let at-parts = c .before .before .before .before .before .before .before in
+    let at-loop-test = at-parts .before .before in
     let at-loop = at-loop-test .before in
     let at-held-table = at-loop .before in
     let at-slot-table = at-held-table .before in
     let at-start = at-slot-table .before .before .before .before .before in
     let o = at-loop .loop in
     let n = full-next (at-start .args .list .now) (o .at) (at-loop-test .loop-test .taken) (o .inv .1) in
-    ((o .inv .0, (at-slot-table .slot-table .ensures, at-held-table .held-table .ensures)), n .0)
+    let h = at-parts .parts .ensures in (
+      (o .inv .0, (at-slot-table .slot-table .ensures, at-held-table .held-table .ensures)),
+      (omega (arith, h .0), omega (arith, h .2), omega (arith, h .3), omega (arith, h .2, n .0), omega arith),
+    )
 
 add-at : tie.Need-add-at Inv-loop μ-loop
 add-at c = search needs
@@ -72,8 +86,8 @@ loop-less c = search needs
 
 loop-again : tie.Need-loop-again Inv-loop μ-loop
 loop-again c =
-    let at-apply-at = c .before .before .before .before .before .before in
-    let at-words-taken = at-apply-at .before .before .before .before .before .before in
+    let at-apply-run = c .before .before .before .before .before .before in
+    let at-words-taken = at-apply-run .before .before .before .before .before .before .before in
     let at-parts = at-words-taken .before in
     let at-loop-test = at-parts .before .before in
     let at-loop = at-loop-test .before in
@@ -82,14 +96,15 @@ loop-again c =
     let o = at-loop .loop in
     let t = at-loop-test .loop-test .taken in
     let n = full-next l (o .at) t (o .inv .1) in
-    let p = at-apply-at .apply-at in
+    let p = at-apply-run .apply-run in
     let k = p .kept in
     let w = at-words-taken .words-taken .ensures in
-    let e = at-parts .parts .ensures .2 in
+    let h = at-parts .parts .ensures in
+    let e = expand-from l (o .at) in
     let j = join-applies l (o .at) (st (o .cells) (o .fog) (o .light)) t in (
       (omega (arith, k .0), omega (arith, k .1 .0), omega (arith, k .1 .1 .0)),
-      rw (w, e) (n .1),
-      rw (w, e, p .ensures) (sym j ∙ o .inv .2),
+      rw (w, h .2) (n .1),
+      rw (w, p .ensures, h .0, h .1, h .2, h .3, ← e) (sym j ∙ o .inv .2),
     )
 
 same-length : tie.Need-same-length Inv-loop μ-loop
@@ -123,7 +138,10 @@ apply-list-spec =
     shared-slice-read-parts
     parts-requires
     words-taken-requires
-    apply-at-requires
+    mul-apply-run
+    shared-slice-read-apply-run
+    add-apply-run
+    apply-run-requires
     add-at
     loop-less
     loop-again

@@ -10,7 +10,7 @@ use Rattle.words.specs.Commands.{headerAt, run, expand, commands}
 use Rattle.words.specs.Taken.{refusalIn}
 use Rattle.words.proofs.Heads.{Whole, whole-of, short-of, head-short}
 use Rattle.reader.specs.ListVerdict.{firstFault, judge, verdict}
-use Rattle.reader.specs.Clear.{lastId, clear}
+use Rattle.commands.specs.Clear.{lastId, clear}
 use Rattle.reader.proofs.Judging.{deciding-most, run-none, run-good, run-bad, deciding-fault}
 use Rattle.reader.proofs.Judging.{judge-end, judge-short, judge-fault, judge-pass, verdict-of}
 use Rattle.reader.proofs.judge_list.Statement.{statement}

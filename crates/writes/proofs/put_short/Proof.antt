@@ -8,7 +8,7 @@ use borrow.Author.Needs.{needs}
 use Rattle.words.specs.Writes.{idsIn}
 use Rattle.words.specs.Header.{countOf}
 use Rattle.words.specs.Commands.{headerAt, expand}
-use Rattle.reader.proofs.Applying.{param-later}
+use Rattle.commands.proofs.Runs.{param-later}
 use Rattle.writes.proofs.Rows.{Put, id-first, id-next, put-none, put-next, put-over, put-back}
 use Rattle.writes.proofs.put_short.Statement.{statement}
 use Rattle.writes.proofs.put_short.Tie as tie

@@ -8,7 +8,7 @@ use borrow.Author.Needs.{needs}
 use Rattle.words.specs.Header.{countOf}
 use Rattle.words.specs.Writes.{Write, valuesIn}
 use Rattle.words.specs.Commands.{headerAt, expand}
-use Rattle.reader.proofs.Applying.{param-later}
+use Rattle.commands.proofs.Runs.{param-later}
 use Rattle.writes.proofs.Rows.{value-at, row-next, row-over}
 use Rattle.writes.proofs.put_values.Statement.{statement}
 use Rattle.writes.proofs.put_values.Tie as tie

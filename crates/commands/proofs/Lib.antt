@@ -1,0 +1,6 @@
+pub mod Runs
+pub mod Applying
+pub mod Uploads
+pub mod Same
+pub mod Clearing
+pub mod Once

@@ -1,0 +1,62 @@
+-- What each call answers and leaves, by the tests that code makes. Assumes nothing.
+use mathlib.Core.Path.{_≡_, refl}
+use mathlib.Core.Bool.{Bool, true, false, _&&_}
+use mathlib.Core.List.{List}
+use Prim.Native.Nat.{ℕ}
+use Rattle.numbers.specs.Answer.{Answer, answered, refused}
+use Rattle.registers.specs.State.{State, sized}
+use Rattle.registers.specs.Applied.{applyAll}
+use Rattle.pieces.specs.Progress.{fresh, after, made, counted, closing}
+use Rattle.copies.specs.Copy.{taken}
+use Rattle.pieces.specs.Pieces.{wrongLength, bothSized, opening, openedSpare, feeding, fedSpare, closeAnswer, closeProgress, closedLive, closedSpare}
+use Rattle.pieces.specs.declared.Progress.{Progress}
+use Rattle.pieces.specs.declared.Going.the-variants.{Come}
+use Rattle.pieces.proofs.Closing.{and-false}
+
+-- FEEDING
+module _ (p : Progress) (s : State) (l : List ℕ) where
+  pub feed-wrong : sized s ≡ false → (wrongLength ≡ feeding p s l) × (s ≡ fedSpare p s l)
+  unfolding feeding fedSpare
+  feed-wrong e = rw e (refl, refl)
+
+  pub feed-right : sized s ≡ true → (Come (counted (after p l)) ≡ feeding p s l) × (applyAll s (made p l) ≡ fedSpare p s l)
+  unfolding feeding fedSpare
+  feed-right e = rw e (refl, refl)
+
+module _ (live spare : State) where
+  -- both states have their lengths, or one hasn't
+  pub wrong-live : sized live ≡ false → bothSized live spare ≡ false
+  wrong-live e = rw e
+
+  pub wrong-spare : sized spare ≡ false → bothSized live spare ≡ false
+  wrong-spare e = and-false (sized live) (sized spare) e
+
+  pub right-both : sized live ≡ true → sized spare ≡ true → bothSized live spare ≡ true
+  right-both a b = rw (a, b)
+
+  -- OPENING
+  pub open-wrong : bothSized live spare ≡ false → (wrongLength ≡ opening live spare) × (spare ≡ openedSpare live spare)
+  unfolding opening openedSpare
+  open-wrong e = rw e (refl, refl)
+
+  pub open-right : bothSized live spare ≡ true → (Come fresh ≡ opening live spare) × (taken spare live ≡ openedSpare live spare)
+  unfolding opening openedSpare
+  open-right e = rw e (refl, refl)
+
+  -- CLOSING
+  pub close-wrong : (p : Progress) → bothSized live spare ≡ false
+      → (refused 6 0 ≡ closeAnswer p live spare) × (p ≡ closeProgress p live spare) × (live ≡ closedLive p live spare) × (spare ≡ closedSpare p live spare)
+  unfolding closeAnswer closeProgress closedLive closedSpare
+  close-wrong p e = rw e (refl, refl, refl, refl)
+
+  pub close-refused : (p : Progress) (n q : ℕ) → bothSized live spare ≡ true → refused n q ≡ closing p
+      → (refused n q ≡ closeAnswer p live spare) × (fresh ≡ closeProgress p live spare) × (live ≡ closedLive p live spare)
+      × (taken spare live ≡ closedSpare p live spare)
+  unfolding closeAnswer closeProgress closedLive closedSpare
+  close-refused p n q e c = rw (e, ← c) (refl, refl, refl, refl)
+
+  pub close-accepted : (p : Progress) (n : ℕ) → bothSized live spare ≡ true → answered n ≡ closing p
+      → (answered n ≡ closeAnswer p live spare) × (fresh ≡ closeProgress p live spare) × (taken live spare ≡ closedLive p live spare)
+      × (spare ≡ closedSpare p live spare)
+  unfolding closeAnswer closeProgress closedLive closedSpare
+  close-accepted p n e c = rw (e, ← c) (refl, refl, refl, refl)

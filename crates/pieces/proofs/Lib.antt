@@ -1,0 +1,9 @@
+pub mod Steps
+pub mod Stands
+pub mod Closing
+pub mod Counts
+pub mod Makes
+pub mod Ways
+pub mod Choices
+pub mod Calls
+pub mod Once

@@ -1,0 +1,94 @@
+-- Each way out is one case of the feeding. Assumes nothing.
+use mathlib.Core.Path.{_≡_, sym, _∙_}
+use borrow.Author.Tests.{not-true, not-false}
+use Rattle.registers.specs.State.{st}
+use Rattle.registers.proofs.Sizes.{lengths}
+use Rattle.pieces.proofs.Calls.{feed-wrong, feed-right}
+use borrow.Author.Needs.{needs}
+use Rattle.pieces.proofs.feed.Statement.{statement}
+use Rattle.pieces.proofs.feed.Tie as tie
+use Rattle.pieces.proofs.feed.Reads as reads
+use Rattle.pieces.proofs.feed.Lts as lts
+use Rattle.pieces.proofs.held_count.Reads as held-count-reads
+use Rattle.pieces.proofs.parts.take_part.Reads as take-part-reads
+use Rattle.registers.proofs.is_sized.Reads as is-sized-reads
+
+-- src/lib.rt:127:9
+is-sized-requires : tie.Need-is-sized-requires
+is-sized-requires c κs = search needs
+
+-- src/lib.rt:128:9
+same-length : tie.Need-same-length
+same-length c = search needs
+
+-- src/lib.rt:128:9
+same-length-2 : tie.Need-same-length-2
+same-length-2 c = search needs
+
+-- src/lib.rt:128:9
+same-length-3 : tie.Need-same-length-3
+same-length-3 c = search needs
+
+-- src/lib.rt:128:9
+returns : tie.Need-returns
+returns c =
+    let at-is-sized = c .before in
+    let at-start = at-is-sized .before .before .before .before .before .before .before .before in
+    let a = at-start .args in
+    let s = st (a .cells .now) (a .fog .now) (a .light .now) in
+    feed-wrong (a .p) s (a .part .now) (sym (at-is-sized .is-sized .ensures) ∙ not-true _ (c .if1 .taken))
+
+-- src/lib.rt:133:28
+take-part-requires : tie.Need-take-part-requires
+take-part-requires c κs =
+    let at-if1 = c .before .before .before in
+    let at-is-sized = at-if1 .before in
+    let at-start = at-is-sized .before .before .before .before .before .before .before .before in
+    let a = at-start .args in
+    let s = st (a .cells .now) (a .fog .now) (a .light .now) in
+    lengths s (sym (at-is-sized .is-sized .ensures) ∙ not-false _ (at-if1 .if1 .left))
+
+-- src/lib.rt:133:17
+held-count-requires : tie.Need-held-count-requires
+held-count-requires c κs = search needs
+
+-- src/lib.rt:112:1
+same-length-4 : tie.Need-same-length-4
+same-length-4 c = search needs
+
+-- src/lib.rt:112:1
+same-length-5 : tie.Need-same-length-5
+same-length-5 c = search needs
+
+-- src/lib.rt:112:1
+same-length-6 : tie.Need-same-length-6
+same-length-6 c = search needs
+
+-- src/lib.rt:112:1
+returns-2 : tie.Need-returns-2
+returns-2 c =
+    let at-take-part = c .before .before .before .before .before .before .before in
+    let at-if1 = at-take-part .before .before .before .before in
+    let at-is-sized = at-if1 .before in
+    let at-start = at-is-sized .before .before .before .before .before .before .before .before in
+    let a = at-start .args in
+    let s = st (a .cells .now) (a .fog .now) (a .light .now) in
+    let r = feed-right (a .p) s (a .part .now) (sym (at-is-sized .is-sized .ensures) ∙ not-false _ (at-if1 .if1 .left)) in
+    let w = at-take-part .take-part .ensures in
+    (rw (c .held-count .ensures, w .0) (r .0), w .1 ∙ r .1)
+
+pub feed-spec : {M : Type 1} → statement M
+feed-spec =
+    tie.close
+    (tie.spec
+    is-sized-requires
+    same-length
+    same-length-2
+    same-length-3
+    returns
+    take-part-requires
+    held-count-requires
+    same-length-4
+    same-length-5
+    same-length-6
+    returns-2)

@@ -1,0 +1,3 @@
+pub mod Progress
+pub mod Leads
+pub mod Pieces

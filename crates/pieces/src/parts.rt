@@ -1,0 +1,321 @@
+// The words of a part, one after another. The contracts cite specs/Progress.antt.
+ghost use mathlib.Core.Path.{_≡_};
+ghost use Prim.Native.Nat.{_+_, _≤_, _<_, min};
+ghost use lib.ListN.{length};
+ghost use Rattle.numbers.specs.Bits.{spread};
+ghost use Rattle.words.specs.Header.{idOf, maskOf};
+ghost use Rattle.words.specs.Writes.{writing, faultOf};
+ghost use Rattle.registers.specs.State.{st, Lengths};
+ghost use Rattle.registers.specs.Tables.{LookupTables};
+ghost use Rattle.registers.specs.Applied.{applyAll};
+ghost use Rattle.pieces.specs.Leads.{Leads};
+ghost use Rattle.pieces.specs.Progress.{firstOf, headed, sound, next, makes, after, made};
+use crate::Progress;
+use words::Header;
+
+// The first fault: the one so far, or that of a write to `id` under `mask`.
+fn first_fault(earlier: u32, id: u32, mask: u32) -> u32
+    ensures { λ r. ⌜ r ≡ firstOf earlier (faultOf id mask) ⌝ }
+{
+    if earlier != 0 {
+        return earlier;
+    }
+    words::fault(id, mask)
+}
+
+// One write, in the bytes of its mask, unless there is a fault so far.
+fn put_sound(
+    cells: &mut [u32],
+    fog: &mut [u32],
+    light: &mut [u32],
+    slots: &[u8; 256],
+    held: &[u32; 132],
+    fault: u32,
+    id: u32,
+    mask: u32,
+    value: u32,
+)
+    requires { ⌜ Lengths (now cells) (now fog) (now light) × LookupTables (now slots) (now held) ⌝ }
+    ensures { λ _. ⌜
+        st (now (cells .exit)) (now (fog .exit)) (now (light .exit))
+        ≡ applyAll (st (now (cells .entry)) (now (fog .entry)) (now (light .entry))) (sound fault (writing id mask value))
+        ⌝ }
+{
+    if fault != 0 {
+        return;
+    }
+    let bytes = ports::spread_mask(mask);
+    registers::put_one(cells, fog, light, slots, held, id, bytes, value);
+}
+
+// The header of the present command.
+fn take_header(
+    p: Progress,
+    cells: &mut [u32],
+    fog: &mut [u32],
+    light: &mut [u32],
+    slots: &[u8; 256],
+    held: &[u32; 132],
+    x: u32,
+) -> Progress
+    requires { ⌜ Lengths (now cells) (now fog) (now light) × LookupTables (now slots) (now held) ⌝ }
+    requires { ⌜ p .come ≤ 65535 ⌝ }
+    ensures progress { λ r. ⌜ r ≡ headed p x ⌝ }
+    ensures state { λ _. ⌜
+        st (now (cells .exit)) (now (fog .exit)) (now (light .exit))
+        ≡ applyAll (st (now (cells .entry)) (now (fog .entry)) (now (light .entry)))
+        (sound (headed p x .fault) (writing (idOf x) (maskOf x) (p .first)))
+        ⌝ }
+{
+    let h = words::parts(x);
+    let fault = first_fault(p.fault, h.id, h.mask);
+    put_sound(cells, fog, light, slots, held, fault, h.id, h.mask, p.first);
+    let mut q = p;
+    q.come = p.come + 1;
+    q.begun = 0;
+    q.id = h.id;
+    q.mask = h.mask;
+    q.step = h.step;
+    q.left = h.count;
+    q.pad = (2 + h.count) % 2;
+    q.writes = std::num::wrapping_add_u32(p.writes, h.count + 1);
+    q.fault = fault;
+    q
+}
+
+// One word: the progress after it, and the write that it makes.
+fn take_word(
+    p: Progress,
+    cells: &mut [u32],
+    fog: &mut [u32],
+    light: &mut [u32],
+    slots: &[u8; 256],
+    held: &[u32; 132],
+    x: u32,
+) -> Progress
+    requires { ⌜ Lengths (now cells) (now fog) (now light) × LookupTables (now slots) (now held) ⌝ }
+    ensures progress { λ r. ⌜ r ≡ next p x ⌝ }
+    ensures state { λ _. ⌜
+        st (now (cells .exit)) (now (fog .exit)) (now (light .exit))
+        ≡ applyAll (st (now (cells .entry)) (now (fog .entry)) (now (light .entry))) (makes p x)
+        ⌝ }
+{
+    let mut q = p;
+    if 65535 < p.come {
+        q.come = 65537;
+        return q;
+    }
+    q.come = p.come + 1;
+    if 0 < p.left {
+        let id = std::num::wrapping_add_u32(p.id, p.step);
+        let fault = first_fault(p.fault, id, p.mask);
+        put_sound(cells, fog, light, slots, held, fault, id, p.mask, x);
+        q.id = id;
+        q.left = p.left - 1;
+        q.fault = fault;
+        return q;
+    }
+    if 0 < p.pad {
+        q.pad = p.pad - 1;
+        return q;
+    }
+    if 0 < p.begun {
+        return take_header(p, cells, fog, light, slots, held, x);
+    }
+    if p.fault == 0 {
+        q.place = p.come;
+        q.begun = 1;
+        q.first = x;
+        return q;
+    }
+    q
+}
+
+// How far a step led within a part.
+struct Reached {
+    progress: Progress,
+    at: usize,
+}
+
+// The word at `at`.
+fn take_one(
+    p: Progress,
+    cells: &mut [u32],
+    fog: &mut [u32],
+    light: &mut [u32],
+    slots: &[u8; 256],
+    held: &[u32; 132],
+    part: &[u32],
+    at: usize,
+) -> Reached
+    requires { ⌜ Lengths (now cells) (now fog) (now light) × LookupTables (now slots) (now held) ⌝ }
+    requires { ⌜ at < length (now part) ⌝ }
+    ensures { λ r. ⌜
+        Leads (now (part .entry)) p at (st (now (cells .entry)) (now (fog .entry)) (now (light .entry)))
+        (r .progress) (r .at) (st (now (cells .exit)) (now (fog .exit)) (now (light .exit)))
+        ⌝ }
+{
+    let progress = take_word(p, cells, fog, light, slots, held, part[at]);
+    Reached {
+        progress,
+        at: at + 1,
+    }
+}
+
+// The next command, at once where its words are all here and none of its writes can be at fault; else its first word.
+fn take_command(
+    p: Progress,
+    cells: &mut [u32],
+    fog: &mut [u32],
+    light: &mut [u32],
+    slots: &[u8; 256],
+    held: &[u32; 132],
+    part: &[u32],
+    at: usize,
+) -> Reached
+    requires { ⌜ Lengths (now cells) (now fog) (now light) × LookupTables (now slots) (now held) ⌝ }
+    requires { ⌜ (at + 2 ≤ length (now part)) × (p .left ≡ 0) × (p .pad ≡ 0) × (p .begun ≡ 0) × (p .fault ≡ 0) ⌝ }
+    ensures { λ r. ⌜
+        Leads (now (part .entry)) p at (st (now (cells .entry)) (now (fog .entry)) (now (light .entry)))
+        (r .progress) (r .at) (st (now (cells .exit)) (now (fog .exit)) (now (light .exit)))
+        ⌝ }
+{
+    let h = words::parts(part[at + 1]);
+    let taken = words::words_taken(h);
+    let last = commands::last_id(h.id, h.count, h.step);
+    let here = (taken <= part.len() - at) & (p.come as usize + taken <= 65536);
+    if !(here & commands::is_clear(h.id, last, h.mask)) {
+        return take_one(p, cells, fog, light, slots, held, part, at);
+    }
+    commands::apply_run(cells, fog, light, slots, held, h, part[at], part, at + 2);
+    let mut q = p;
+    q.come = p.come + (h.count + 3) / 2 * 2;
+    q.place = p.come;
+    q.first = part[at];
+    q.id = last;
+    q.mask = h.mask;
+    q.step = h.step;
+    q.writes = std::num::wrapping_add_u32(p.writes, h.count + 1);
+    Reached {
+        progress: q,
+        at: at + taken,
+    }
+}
+
+fn least(a: u32, b: u32) -> u32
+    ensures { λ r. ⌜ r ≡ min a b ⌝ }
+{
+    if a < b { a } else { b }
+}
+
+// How many extra parameters can be taken in one run: those that are here and below the limit, at most 256.
+fn run_length(left: u32, come: u32, here: usize) -> u32
+    requires { ⌜ (0 < left) × (come ≤ 65535) × (0 < here) ⌝ }
+    ensures { λ r. ⌜ (0 < r) × (r ≤ left) × (come + r ≤ 65536) × (r ≤ here) × (r ≤ 256) ⌝ }
+{
+    let most = least(least(left, 65536 - come), 256);
+    if here < most as usize {
+        here as u32
+    } else {
+        most
+    }
+}
+
+// The extra parameters that are here, in one run where none of their writes can be at fault; else the first of them.
+fn take_extras(
+    p: Progress,
+    cells: &mut [u32],
+    fog: &mut [u32],
+    light: &mut [u32],
+    slots: &[u8; 256],
+    held: &[u32; 132],
+    part: &[u32],
+    at: usize,
+) -> Reached
+    requires { ⌜ Lengths (now cells) (now fog) (now light) × LookupTables (now slots) (now held) ⌝ }
+    requires { ⌜ (at < length (now part)) × (0 < p .left) ⌝ }
+    ensures { λ r. ⌜
+        Leads (now (part .entry)) p at (st (now (cells .entry)) (now (fog .entry)) (now (light .entry)))
+        (r .progress) (r .at) (st (now (cells .exit)) (now (fog .exit)) (now (light .exit)))
+        ⌝ }
+{
+    if !((p.fault == 0) & (p.step <= 1) & (p.id <= 0xFFFF) & (p.come <= 65535)) {
+        return take_one(p, cells, fog, light, slots, held, part, at);
+    }
+    let n = run_length(p.left, p.come, part.len() - at);
+    let first = p.id + p.step;
+    let last = commands::last_id(first, n - 1, p.step);
+    if !commands::is_clear(first, last, p.mask) {
+        return take_one(p, cells, fog, light, slots, held, part, at);
+    }
+    let h = Header {
+        id: first,
+        mask: p.mask,
+        count: n - 1,
+        step: p.step,
+    };
+    commands::apply_run(cells, fog, light, slots, held, h, part[at], part, at + 1);
+    let mut q = p;
+    q.come = p.come + n;
+    q.id = last;
+    q.left = p.left - n;
+    Reached {
+        progress: q,
+        at: at + n as usize,
+    }
+}
+
+// Some words from `at` on: a command, extra parameters, or one word.
+fn take_some(
+    p: Progress,
+    cells: &mut [u32],
+    fog: &mut [u32],
+    light: &mut [u32],
+    slots: &[u8; 256],
+    held: &[u32; 132],
+    part: &[u32],
+    at: usize,
+) -> Reached
+    requires { ⌜ Lengths (now cells) (now fog) (now light) × LookupTables (now slots) (now held) ⌝ }
+    requires { ⌜ at < length (now part) ⌝ }
+    ensures { λ r. ⌜
+        Leads (now (part .entry)) p at (st (now (cells .entry)) (now (fog .entry)) (now (light .entry)))
+        (r .progress) (r .at) (st (now (cells .exit)) (now (fog .exit)) (now (light .exit)))
+        ⌝ }
+{
+    if (p.left == 0) & (p.pad == 0) & (p.begun == 0) & (p.fault == 0) & (2 <= part.len() - at) {
+        return take_command(p, cells, fog, light, slots, held, part, at);
+    }
+    if 0 < p.left {
+        return take_extras(p, cells, fog, light, slots, held, part, at);
+    }
+    take_one(p, cells, fog, light, slots, held, part, at)
+}
+
+// A part, from its first word to its last.
+pub fn take_part(
+    p: Progress,
+    cells: &mut [u32],
+    fog: &mut [u32],
+    light: &mut [u32],
+    part: &[u32],
+) -> Progress
+    requires { ⌜ Lengths (now cells) (now fog) (now light) ⌝ }
+    ensures progress { λ r. ⌜ r ≡ after p (now (part .entry)) ⌝ }
+    ensures state { λ _. ⌜
+        st (now (cells .exit)) (now (fog .exit)) (now (light .exit))
+        ≡ applyAll (st (now (cells .entry)) (now (fog .entry)) (now (light .entry))) (made p (now (part .entry)))
+        ⌝ }
+{
+    let slots = registers::held::slot_table();
+    let held = registers::held::held_table();
+    let mut q = p;
+    let mut at: usize = 0;
+    while at < part.len() {
+        let r = take_some(q, cells, fog, light, &slots, &held, part, at);
+        let reached = r.progress;
+        q = reached;
+        at = r.at;
+    }
+    q
+}
