@@ -131,7 +131,7 @@ apply-run-requires c κs =
     let h = at-parts .parts .ensures in
     let w = at-words-taken .words-taken .ensures in
     let f = facts at-if1 in
-    (at-start .pre .0, (omega (arith, h .0), omega (arith, h .2), omega (arith, h .3), omega (arith, h .2, f .0, at-start .pre .1 .0)))
+    (at-start .pre .0, (omega (arith, h .0), omega (arith, h .2), omega (arith, h .3), omega (arith, h .2, f .0, at-start .pre .1 .0), omega arith))
 
 -- src/parts.rt:192:24
 add-q : tie.Need-add-q

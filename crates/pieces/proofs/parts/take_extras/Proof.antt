@@ -130,7 +130,7 @@ apply-run-requires c κs =
     let at-start = at-if1 .before .before .before .before .before .before .before .before .before in
     let n = at-run-length .run-length .ensures in
     let f = plain at-if1 in
-    (at-start .pre .0, (omega (arith, f .1, f .2), omega (arith, n .4), f .1, omega (arith, n .0, n .3, at-start .pre .1 .0)))
+    (at-start .pre .0, (omega (arith, f .1, f .2), omega (arith, n .4), f .1, omega (arith, n .0, n .3, at-start .pre .1 .0), omega arith))
 
 -- src/parts.rt:259:14
 add-q : tie.Need-add-q
