@@ -99,11 +99,13 @@ write-taken s w = taken (writeAnswer s w) (omega (arith, write-uncut s w)) (λ n
 
 pub writes-taken : (l is ms vs : List ℕ) → asTaken (answer (writesAnswer l is ms vs)) ≡ writesAnswer l is ms vs
 writes-taken l is ms vs =
-    taken (writesAnswer l is ms vs) (omega (arith, writes-uncut l is ms vs)) (λ n p e. writes-numbered l is ms vs n p (writes-row l is ms vs n p e))
+    taken (writesAnswer l is ms vs) (omega (arith, writes-uncut l is ms vs))
+    (λ n p e. writes-numbered l is ms vs n p (writes-row l is ms vs n p e))
 
 pub pack-taken : (is ms vs : List ℕ) (room : ℕ) → asTaken (answer (packAnswer is ms vs room)) ≡ packAnswer is ms vs room
 pack-taken is ms vs room =
-    taken (packAnswer is ms vs room) (omega (arith, pack-uncut is ms vs room)) (λ n p e. pack-numbered is ms vs room n p (pack-row is ms vs room n p e))
+    taken (packAnswer is ms vs room) (omega (arith, pack-uncut is ms vs room))
+    (λ n p e. pack-numbered is ms vs room n p (pack-row is ms vs room n p e))
 
 -- of those that the promises of `pica_open`, `pica_feed` and `pica_close` give; the reader's words are of 32 bits
 pub open-taken : (live spare : State) → asTaken (answer (pieces.told (opening live spare))) ≡ pieces.told (opening live spare)
