@@ -69,13 +69,15 @@ beside-closed {p} {live} {spare} {live′} {spare′} c = go (bothSized live spa
   where
     go : (b : Bool) → bothSized live spare ≡ b → (v : Answer) → closing p ≡ v → Beside live′ live × Beside spare′ spare
     go true e (answered n) v =
-        let r = close-accepted live spare p n e (sym v) in
-        (rw (close-call c .2 ∙ sym (r .2)) (beside-taken live spare (both-sized live spare e .0)),
-        rw (close-call c .3 ∙ sym (r .3)) (beside-same spare))
+        let r = close-accepted live spare p n e (sym v) in (
+          rw (close-call c .2 ∙ sym (r .2)) (beside-taken live spare (both-sized live spare e .0)),
+          rw (close-call c .3 ∙ sym (r .3)) (beside-same spare),
+        )
     go true e (refused n q) v =
-        let r = close-refused live spare p n q e (sym v) in
-        (rw (close-call c .2 ∙ sym (r .2)) (beside-same live),
-        rw (close-call c .3 ∙ sym (r .3)) (beside-taken spare live (both-sized live spare e .1)))
+        let r = close-refused live spare p n q e (sym v) in (
+          rw (close-call c .2 ∙ sym (r .2)) (beside-same live),
+          rw (close-call c .3 ∙ sym (r .3)) (beside-taken spare live (both-sized live spare e .1)),
+        )
     go false e a v =
         let r = close-wrong live spare p e in
         (rw (close-call c .2 ∙ sym (r .2)) (beside-same live), rw (close-call c .3 ∙ sym (r .3)) (beside-same spare))

@@ -112,9 +112,10 @@ feeds-joined [] p q s t f h = (f .0 ∙ sym (after-none p), f .1 ∙ sym (rw (ma
 feeds-joined (l ∷ ls) p q s t f h =
     let c = fed-call (f .call) in
     let e : f .progress ≡ after p l = c .1 ∙ counted-same (after p l) (held-after p l h) in
-    let r = feeds-joined ls (f .progress) q (f .spare) t (f .on) (rw e (held-after p l h)) in
-    (r .0 ∙ rw e (sym (after-append p l (joined ls))),
-    r .1 ∙ rw (c .2, e, made-append p l (joined ls)) (sym (apply-append s (made p l) (made (after p l) (joined ls)))))
+    let r = feeds-joined ls (f .progress) q (f .spare) t (f .on) (rw e (held-after p l h)) in (
+      r .0 ∙ rw e (sym (after-append p l (joined ls))),
+      r .1 ∙ rw (c .2, e, made-append p l (joined ls)) (sym (apply-append s (made p l) (made (after p l) (joined ls)))),
+    )
 
 alike-back : {s t : State} → Alike s t → Alike t s
 alike-back a =

@@ -178,7 +178,7 @@ module _ (live s : State) (ws : List Write) (t : sized live ≡ true) (f : sized
       ∙ rw (
         taken-list cellTaking 768 (live .cells) (s .cells) (done .cells) (p .0) (q .0) (λ j. cell-taken (eqb (bitsOf j) 0) j refl),
         taken-list entryTaking 128 (live .fog) (s .fog) (done .fog) (p .1) (q .1)
-        (λ j. omega (arith, a .fog j, fog-entries-only j live ws)),
+            (λ j. omega (arith, a .fog j, fog-entries-only j live ws)),
         taken-list entryTaking 6144 (live .light) (s .light) (done .light) (p .2) (q .2)
-        (λ j. omega (arith, a .light j, light-entries-only j live ws)),
+            (λ j. omega (arith, a .light j, light-entries-only j live ws)),
       )
