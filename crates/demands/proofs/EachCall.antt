@@ -7,24 +7,63 @@ use Prim.Native.Nat.{ℕ, _≤_, _<_}
 use native.Mathlib.Decide.{decLt}
 use native.Mathlib.Omega.{arith}
 use lib.Dec.{eqb, ltb}
-use lib.ListN.{length}
 use borrow.Author.Tests.{lt-ltb, le-ltb}
 use Rattle.numbers.specs.Pick.{pick}
 use Rattle.numbers.specs.Answer.{Answer, answered, refused}
 use Rattle.registers.specs.State.{State, sized}
-use Rattle.reader.specs.ListVerdict.{verdict}
 use Rattle.reader.specs.Read.{told as read-told}
-use Rattle.pieces.specs.Progress.{after, made, heldAt, between, faultNumber, closing}
-use Rattle.pieces.specs.Pieces.{told, bothSized, opening, feeding, closeAnswer}
+use Rattle.registers.specs.Applied.{applyAll}
+use Rattle.copies.specs.Copy.{taken}
+use Rattle.pieces.specs.Progress.{fresh, after, made, heldAt, counted, between, faultNumber, closing}
+use Rattle.pieces.specs.Pieces.{told, bothSized}
 use Rattle.pieces.specs.declared.Progress.{Progress}
 use Rattle.pieces.specs.declared.Going.{Going}
 use Rattle.pieces.specs.declared.Going.the-variants.{Come}
 use Rattle.pieces.specs.declared.Closed.{Closed}
 use Rattle.pieces.proofs.Calls.{open-wrong, open-right, feed-wrong, feed-right, close-wrong, close-refused, close-accepted}
 use Rattle.demands.specs.Refusals.{In}
+use Rattle.demands.proofs.Alike.{Alike}
+use Rattle.demands.proofs.Taken.{sized-kept, taken-alike}
 use Rattle.demands.proofs.Beside.{Beside, beside-same, beside-run, beside-taken}
 use Rattle.demands.proofs.Calls.{OpenCall, open-call, FeedCall, feed-call, CloseCall, close-call}
-use Rattle.demands.proofs.Pieces.{both-sized, fed-call}
+use Rattle.demands.proofs.Pieces.{both-sized, right-answer, fed-call}
+
+-- RIGHT LENGTHS are never refused by open and feed, and a close then answers by the words alone
+pub open-answers : {live spare t : State} {a : Going} → OpenCall live spare a t → bothSized live spare ≡ true
+    → (a ≡ Come fresh) × (t ≡ taken spare live)
+open-answers {live} {spare} c e =
+    let k = open-call c in
+    let r = open-right live spare e in (k .0 ∙ sym (r .0), k .1 ∙ sym (r .1))
+
+pub feed-answers : {p : Progress} {s t : State} {l : List ℕ} {a : Going} → FeedCall p s l a t → sized s ≡ true
+    → (a ≡ Come (counted (after p l))) × (t ≡ applyAll s (made p l)) × (sized t ≡ true)
+feed-answers {p} {s} {t} {l} c e =
+    let k = feed-call c in
+    let r = feed-right p s l e in
+    let i = k .1 ∙ sym (r .1) in (k .0 ∙ sym (r .0), i, rw i (sized-kept s (made p l) ∙ e))
+
+-- "On acceptance the live state takes those of the spare", which keeps what it has; "on any other refusal the spare those of the live"; "and
+-- the reader is as freshly opened"
+module _ {p : Progress} {live spare live′ spare′ : State} {c : Closed} (k : CloseCall p live spare c live′ spare′)
+    (e : bothSized live spare ≡ true) where
+  told-closing : read-told (c .verdict) ≡ closing p
+  told-closing = close-call k .0 ∙ right-answer live spare p e
+
+  pub close-accepts : (n : ℕ) → read-told (c .verdict) ≡ answered n
+      → (live′ ≡ taken live spare) × Alike live′ spare × (spare′ ≡ spare) × (c .progress ≡ fresh)
+  close-accepts n v =
+      let r = close-accepted live spare p n e (sym v ∙ told-closing) in
+      let d = both-sized live spare e in
+      let i = close-call k .2 ∙ sym (r .2) in
+      (i, rw i (taken-alike live spare (d .0) (d .1)), close-call k .3 ∙ sym (r .3), close-call k .1 ∙ sym (r .1))
+
+  pub close-refuses : (n x : ℕ) → read-told (c .verdict) ≡ refused n x
+      → (live′ ≡ live) × (spare′ ≡ taken spare live) × Alike spare′ live × (c .progress ≡ fresh)
+  close-refuses n x v =
+      let r = close-refused live spare p n x e (sym v ∙ told-closing) in
+      let d = both-sized live spare e in
+      let i = close-call k .3 ∙ sym (r .3) in
+      (close-call k .2 ∙ sym (r .2), i, rw i (taken-alike spare live (d .1) (d .0)), close-call k .1 ∙ sym (r .1))
 
 -- "A buffer of wrong length is refusal 6 at any call and changes nothing": a refused opening or feeding hands back no progress, so that the
 -- caller's stays, and a refused close hands back the same
@@ -82,32 +121,31 @@ beside-closed {p} {live} {spare} {live′} {spare′} c = go (bothSized live spa
         let r = close-wrong live spare p e in
         (rw (close-call c .2 ∙ sym (r .2)) (beside-same live), rw (close-call c .3 ∙ sym (r .3)) (beside-same spare))
 
--- ANY PROGRESS AT ALL: a close refuses by a number of the table, 1 to 6
-fault-told : (a b : Bool) → In (pick a 3 (pick b 4 5)) (1 ∷ 2 ∷ 3 ∷ 4 ∷ 5 ∷ 6 ∷ [])
+-- ANY PROGRESS AT ALL: a close refuses by a number of the table, 1 to 5, or 6 where a length is wrong
+fault-told : (a b : Bool) → In (pick a 3 (pick b 4 5)) (1 ∷ 2 ∷ 3 ∷ 4 ∷ 5 ∷ [])
 fault-told true b = inr (inr (inl refl))
 fault-told false true = inr (inr (inr (inl refl)))
 fault-told false false = inr (inr (inr (inr (inl refl))))
 
 abbrev Numbered : Answer → Type 0
 Numbered (answered n) = Unit {0}
-Numbered (refused n x) = In n (1 ∷ 2 ∷ 3 ∷ 4 ∷ 5 ∷ 6 ∷ [])
+Numbered (refused n x) = In n (1 ∷ 2 ∷ 3 ∷ 4 ∷ 5 ∷ [])
 
-close-numbered : (p : Progress) (live spare : State) → Numbered (closeAnswer p live spare)
-unfolding closeAnswer closing
-close-numbered p live spare = go (bothSized live spare) (ltb 65536 (p .come)) (between p) (eqb (p .fault) 0)
+close-numbered : (p : Progress) → Numbered (closing p)
+unfolding closing
+close-numbered p = go (ltb 65536 (p .come)) (between p) (eqb (p .fault) 0)
   where
-    go : (s l b f : Bool)
-        → Numbered (pick s (pick l (refused 1 0) (pick b (pick f (answered (p .writes)) (refused (faultNumber (p .fault)) (p .place)))
-        (refused 2 (p .place)))) (refused 6 0))
-    go false l b f = inr (inr (inr (inr (inr (inl refl)))))
-    go true true b f = inl refl
-    go true false false f = inr (inl refl)
-    go true false true true = tt
-    go true false true false = fault-told (eqb (p .fault) 3) (eqb (p .fault) 4)
+    go : (l b f : Bool)
+        → Numbered (pick l (refused 1 0) (pick b (pick f (answered (p .writes)) (refused (faultNumber (p .fault)) (p .place)))
+        (refused 2 (p .place))))
+    go true b f = inl refl
+    go false false f = inr (inl refl)
+    go false true true = tt
+    go false true false = fault-told (eqb (p .fault) 3) (eqb (p .fault) 4)
 
-pub pieces-numbers : {p : Progress} {live spare live′ spare′ : State} {c : Closed} (n x : ℕ) → CloseCall p live spare c live′ spare′
-    → read-told (c .verdict) ≡ refused n x → In n (1 ∷ 2 ∷ 3 ∷ 4 ∷ 5 ∷ 6 ∷ [])
-pieces-numbers {p} {live} {spare} n x c e = rw (sym (close-call c .0) ∙ e) at (close-numbered p live spare)
+pub close-numbers : {p : Progress} {live spare live′ spare′ : State} {c : Closed} (n x : ℕ) → CloseCall p live spare c live′ spare′
+    → bothSized live spare ≡ true → read-told (c .verdict) ≡ refused n x → In n (1 ∷ 2 ∷ 3 ∷ 4 ∷ 5 ∷ [])
+close-numbers {p} n x k e v = rw (sym (told-closing k e) ∙ v) at (close-numbered p)
 
 -- and feeding answers at most 65,537
 pub fed-at-most : {p q : Progress} {s t : State} {l : List ℕ} → FeedCall p s l (Come q) t → q .come ≤ 65537

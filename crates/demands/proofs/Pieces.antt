@@ -31,7 +31,7 @@ use Rattle.pieces.proofs.Counts.{come-held, counted-same}
 use Rattle.pieces.proofs.Calls.{open-wrong, open-right, feed-wrong, feed-right, close-refused, close-accepted}
 use Rattle.demands.proofs.Alike.{Alike}
 use Rattle.demands.proofs.NeverRead.{never-read}
-use Rattle.demands.proofs.Taken.{sized-kept, Words, run-words, taken-alike, taken-sized, taken-done}
+use Rattle.demands.proofs.Taken.{sized-kept, Words, run-words, taken-alike, taken-sized, taken-words, taken-done}
 use Rattle.demands.proofs.Beside.{beside-run, taken-same}
 use Rattle.demands.proofs.Calls.{ReadCall, read-call, OpenCall, open-call, FeedCall, feed-call, CloseCall, close-call}
 
@@ -104,8 +104,8 @@ held-twice n (no h) = let t = le-ltb 65536 n (omega arith) in rw (t, t)
 held-after : (p : Progress) (l : List ℕ) → p .come ≡ heldAt (p .come) → after p l .come ≡ heldAt (after p l .come)
 held-after p l h = rw (come-held p l h) (held-twice (p .come + length l) (decLt 65536 (p .come + length l)))
 
--- parts are fed as the joined list would be at once
-feeds-joined : (ls : List (List ℕ)) (p q : Progress) (s t : State) → Feeds p s ls q t → p .come ≡ heldAt (p .come)
+-- parts are fed as the joined list would be at once: what the spare state holds in between doesn't go by the cutting either
+pub feeds-joined : (ls : List (List ℕ)) (p q : Progress) (s t : State) → Feeds p s ls q t → p .come ≡ heldAt (p .come)
     → (q ≡ after p (joined ls)) × (t ≡ applyAll s (made p (joined ls)))
 unfolding joined
 feeds-joined [] p q s t f h = (f .0 ∙ sym (after-none p), f .1 ∙ sym (rw (made-none p) (apply-none s)))
@@ -129,11 +129,11 @@ alike-back a =
     }
 
 -- where both have their lengths, a close answers by the words alone
-right-answer : (live spare : State) (p : Progress) → bothSized live spare ≡ true → closeAnswer p live spare ≡ closing p
+pub right-answer : (live spare : State) (p : Progress) → bothSized live spare ≡ true → closeAnswer p live spare ≡ closing p
 unfolding closeAnswer
 right-answer live spare p e = rw e
 
--- "Feeding answers only how many words have come, held at 65,537"
+-- "Feeding answers only how many words have come, held at 65,537": `told` of its answer is this number alone
 pub words-come : {live s : State} {p : Progress} (ls : List (List ℕ)) (q : Progress) (t : State) → Opened live p s → Feeds p s ls q t
     → q .come ≡ heldAt (length (joined ls))
 words-come {live} {s} {p} ls q t o f =
@@ -144,13 +144,14 @@ words-come {live} {s} {p} ls q t o f =
 
 -- "If nobody else writes to either state from opening to close, then for every cutting the verdict, the place counted from the list's start
 -- and the live state are those of reading the joined list at once. The 65,536 limit is on the joined length."; and the reader is then as
--- freshly opened, so that the next list may come
+-- freshly opened, so that the next list may come without another opening
 pub record InPieces (live : State) (l : List ℕ) (c : Closed) (live′ spare′ : State) : Type 0 where
   pub answer : read-told (c .verdict) ≡ readAnswer live l
-  pub state : live′ ≡ readState live l
+  pub state : Words live → live′ ≡ readState live l
   pub opened : Opened live′ (c .progress) spare′
+  pub words : Words live → Words live′
 
-module _ (live s : State) (l : List ℕ) (a : sized live ≡ true) (b : sized s ≡ true) (w : Words live) (k : Alike s live) where
+module _ (live s : State) (l : List ℕ) (a : sized live ≡ true) (b : sized s ≡ true) (k : Alike s live) where
   abbrev fed : State
   fed = applyAll s (made fresh l)
 
@@ -172,26 +173,26 @@ module _ (live s : State) (l : List ℕ) (a : sized live ≡ true) (b : sized s 
   by-verdict (answered m) e r x c live′ spare′ h =
       let g = close-accepted live fed (after fresh l) m fed-both (sym e) in
       let n = never-read s live k (made fresh l) in
-      let d = taken-done live fed (made fresh l) a fed-sized w n in
-      let i : live′ ≡ applyAll live (made fresh l) = h .2 ∙ sym (g .2) ∙ d in
+      let i : live′ ≡ taken live fed = h .2 ∙ sym (g .2) in
       record {
         answer = h .0 ∙ sym (g .0) ∙ sym r;
-        state = rw (r, ← (x m refl)) i;
+        state = λ w. rw (r, ← (x m refl)) (i ∙ taken-done live fed (made fresh l) a fed-sized w n);
         opened =
             rw (i, h .3 ∙ sym (g .3))
             (record {
               progress = h .1 ∙ sym (g .1);
-              live-sized = sized-kept live (made fresh l) ∙ a;
+              live-sized = taken-sized live fed a fed-sized;
               spare-sized = fed-sized;
-              alike = n;
+              alike = alike-back (taken-alike live fed a fed-sized);
             });
+        words = λ w. rw i (taken-words live fed a w);
       }
   by-verdict (refused n q) e r x c live′ spare′ h =
       let g = close-refused live fed (after fresh l) n q fed-both (sym e) in
       let i : live′ ≡ live = h .2 ∙ sym (g .2) in
       record {
         answer = h .0 ∙ sym (g .0) ∙ sym r;
-        state = rw r i;
+        state = λ w. rw r i;
         opened =
             rw (i, h .3 ∙ sym (g .3))
             (record {
@@ -200,6 +201,7 @@ module _ (live s : State) (l : List ℕ) (a : sized live ≡ true) (b : sized s 
               spare-sized = taken-sized fed live fed-sized a;
               alike = taken-alike fed live fed-sized a;
             });
+        words = λ w. rw i w;
       }
 
   short-answer : length l ≤ 65536 → readAnswer live l ≡ verdict l
@@ -220,9 +222,9 @@ module _ (live s : State) (l : List ℕ) (a : sized live ≡ true) (b : sized s 
       let r = whole-list l (omega arith) in
       by-verdict (verdict l) (r .answer) (short-answer (omega arith)) (r .writes)
 
-module _ {live s t live′ spare′ : State} {p q : Progress} {c : Closed} (ls : List (List ℕ)) (w : Words live) (o : Opened live p s)
+module _ {live s t live′ spare′ : State} {p q : Progress} {c : Closed} (ls : List (List ℕ)) (o : Opened live p s)
     (f : Feeds p s ls q t) (k : CloseCall q live t c live′ spare′) where
-  closes : Closes live s (joined ls) (o .live-sized) (o .spare-sized) w (o .alike) c live′ spare′
+  closes : Closes live s (joined ls) (o .live-sized) (o .spare-sized) (o .alike) c live′ spare′
   closes =
       let e = feeds-joined ls p q s t f (rw (o .progress)) in
       let x = close-call k in
@@ -230,13 +232,13 @@ module _ {live s t live′ spare′ : State} {p q : Progress} {c : Closed} (ls :
 
   pub in-pieces : InPieces live (joined ls) c live′ spare′
   in-pieces =
-      by-length live s (joined ls) (o .live-sized) (o .spare-sized) w (o .alike) (decLt 65536 (length (joined ls))) c live′ spare′ closes
+      by-length live s (joined ls) (o .live-sized) (o .spare-sized) (o .alike) (decLt 65536 (length (joined ls))) c live′ spare′ closes
 
-  -- against a call of `read` on the joined list, whatever it is lent besides
-  pub as-read : {r : ListVerdict} {u : State} → ReadCall live (joined ls) r u → (c .verdict ≡ r) × (live′ ≡ u)
-  as-read {r} {u} x =
+  -- against a call of `read` on the live state and the joined list
+  pub as-read : {r : ListVerdict} {u : State} → Words live → ReadCall live (joined ls) r u → (c .verdict ≡ r) × (live′ ≡ u)
+  as-read {r} {u} w x =
       let y = read-call x in
-      (told-one (c .verdict) r (in-pieces .answer ∙ sym (y .0)), in-pieces .state ∙ sym (y .1))
+      (told-one (c .verdict) r (in-pieces .answer ∙ sym (y .0)), in-pieces .state w ∙ sym (y .1))
 
   -- "on any other refusal the spare those of the live .., and the reader is as freshly opened": both states and the reader are, word for
   -- word, those after opening
@@ -247,7 +249,7 @@ module _ {live s t live′ spare′ : State} {p q : Progress} {c : Closed} (ls :
       let d = closes in
       let ws = made fresh (joined ls) in
       let b = o .spare-sized in
-      let h = fed-both live s (joined ls) (o .live-sized) b w (o .alike) in
+      let h = fed-both live s (joined ls) (o .live-sized) b (o .alike) in
       let z : closeAnswer (after fresh (joined ls)) live (applyAll s ws) ≡ refused n x = sym (d .0) ∙ e in
       let y : refused n x ≡ closing (after fresh (joined ls)) = sym z ∙ right-answer live (applyAll s ws) (after fresh (joined ls)) h in
       let g = close-refused live (applyAll s ws) (after fresh (joined ls)) n x h y in

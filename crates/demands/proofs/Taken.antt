@@ -134,6 +134,20 @@ module _ (to from : State) (t : sized to ≡ true) (f : sized from ≡ true) whe
       )
       t
 
+-- a state of words is one after it took
+taken-word : (b : Bool) (j o n : ℕ) → o < 0x100000000 → pick b o (merge (bitsOf j) o n) < 0x100000000
+taken-word true j o n h = h
+taken-word false j o n h = merge-word (bitsOf j) o n (held-small j)
+
+pub taken-words : (to from : State) → sized to ≡ true → Words to → Words (taken to from)
+taken-words to from t w j = rw (taken-is to from) (go (decLt j 768))
+  where
+    go : Dec (j < 768) → getD (taking cellTaking 768 (to .cells) (from .cells)) j 0 < 0x100000000
+    go (yes h) =
+        rw (taking-done cellTaking (to .cells) (from .cells) 768 j h (omega (arith, lengths to t .0)))
+        (taken-word (eqb (bitsOf j) 0) j (getD (to .cells) j 0) (getD (from .cells) j 0) (w j))
+    go (no h) = rw (taking-later cellTaking (to .cells) (from .cells) 768 j (omega arith)) (w j)
+
 -- A STATE THAT TAKES OF WHAT IS ALIKE TO ITSELF AFTER A RUN OF WRITES is that state after that run: no bit beside the held ones differs
 one-bit : (h k o n x : ℕ) → h < 2 → n < 2 → x < 2 → (h ≡ 0 → x ≡ o) → bitAnd n h ≡ bitAnd x h → pickBit h n o ≡ x
 one-bit zero k o n x a b c z e = sym (z refl)
