@@ -21,3 +21,4 @@ pub mod EndToEnd
 pub mod Accepts
 pub mod Between
 pub mod FromC
+pub mod PiecesFromC

@@ -1,6 +1,6 @@
 -- Request 1, lists that arrive in pieces, from the contracts of open, feed and close. Assumes nothing; of a state it is asked, where said,
 -- that its cells are 32-bit words, as those of a lent buffer are: in a list of numbers larger ones could stand.
-use mathlib.Core.Path.{_≡_, refl, sym, _∙_}
+use mathlib.Core.Path.{_≡_, refl, sym, ap, _∙_}
 use mathlib.Core.Bool.{Bool, true, false}
 use mathlib.Core.List.{List, [], _∷_, _++_}
 use Prim.Native.Nat.{ℕ, _+_, _≤_, _<_}
@@ -40,17 +40,22 @@ unfoldable pub joined : List (List ℕ) → List ℕ
 joined [] = []
 joined (l ∷ ls) = l ++ joined ls
 
--- a part fed by one call, with what follows
-pub record Fed (p : Progress) (s : State) (part : List ℕ) (rest : Progress → State → Type 0) : Type 0 where
-  pub progress : Progress
+-- a part fed by one call, with what follows; M is what a caller keeps of the reader
+pub record Fed {M : Type 0} (call : M → State → List ℕ → M → State → Type 0) (m : M) (s : State) (part : List ℕ)
+    (rest : M → State → Type 0) : Type 0 where
+  pub reader : M
   pub spare : State
-  pub call : FeedCall p s part (Come progress) spare
-  pub on : rest progress spare
+  pub fed : call m s part reader spare
+  pub on : rest reader spare
 
--- PARTS FED, one call after another, with nobody else writing to the spare state: from the progress p and the state s to q and t
+-- PARTS FED, one call after another, with nobody else writing to the spare state: from m and the state s to n and t
+abbrev pub FeedsBy : {M : Type 0} → (M → State → List ℕ → M → State → Type 0) → M → State → List (List ℕ) → M → State → Type 0
+FeedsBy call m s [] n t = (n ≡ m) × (t ≡ s)
+FeedsBy call m s (l ∷ ls) n t = Fed call m s l (λ r u. FeedsBy call r u ls n t)
+
+-- by calls of `pieces::feed`, of which the caller keeps the progress
 abbrev pub Feeds : Progress → State → List (List ℕ) → Progress → State → Type 0
-Feeds p s [] q t = (q ≡ p) × (t ≡ s)
-Feeds p s (l ∷ ls) q t = Fed p s l (λ r u. Feeds r u ls q t)
+Feeds p s ls q t = FeedsBy (λ p s l q t. FeedCall p s l (Come q) t) p s ls q t
 
 -- the spare state is in step with the live one, and no word has come
 pub record Opened (live : State) (p : Progress) (s : State) : Type 0 where
@@ -105,17 +110,28 @@ held-after : (p : Progress) (l : List ℕ) → p .come ≡ heldAt (p .come) → 
 held-after p l h = rw (come-held p l h) (held-twice (p .come + length l) (decLt 65536 (p .come + length l)))
 
 -- parts are fed as the joined list would be at once: what the spare state holds in between doesn't go by the cutting either
-pub feeds-joined : (ls : List (List ℕ)) (p q : Progress) (s t : State) → Feeds p s ls q t → p .come ≡ heldAt (p .come)
+module _ {M : Type 0} (call : M → State → List ℕ → M → State → Type 0) (view : M → Progress)
+    (does : (m n : M) (s t : State) (l : List ℕ) → sized s ≡ true → call m s l n t
+    → (view n ≡ counted (after (view m) l)) × (t ≡ applyAll s (made (view m) l))) where
+  pub joined-by : (ls : List (List ℕ)) (m n : M) (s t : State) → sized s ≡ true → FeedsBy call m s ls n t
+      → view m .come ≡ heldAt (view m .come)
+      → (view n ≡ after (view m) (joined ls)) × (t ≡ applyAll s (made (view m) (joined ls)))
+  unfolding joined
+  joined-by [] m n s t z f h =
+      (ap view (f .0) ∙ sym (after-none (view m)), f .1 ∙ sym (rw (made-none (view m)) (apply-none s)))
+  joined-by (l ∷ ls) m n s t z f h =
+      let p = view m in
+      let c = does m (f .reader) s (f .spare) l z (f .fed) in
+      let e : view (f .reader) ≡ after p l = c .0 ∙ counted-same (after p l) (held-after p l h) in
+      let r = joined-by ls (f .reader) n (f .spare) t (rw (c .1) (sized-kept s (made p l) ∙ z)) (f .on) (rw e (held-after p l h)) in (
+        r .0 ∙ rw e (sym (after-append p l (joined ls))),
+        r .1 ∙ rw (c .1, e, made-append p l (joined ls)) (sym (apply-append s (made p l) (made (after p l) (joined ls)))),
+      )
+
+pub feeds-joined : (ls : List (List ℕ)) (p q : Progress) (s t : State) → sized s ≡ true → Feeds p s ls q t → p .come ≡ heldAt (p .come)
     → (q ≡ after p (joined ls)) × (t ≡ applyAll s (made p (joined ls)))
-unfolding joined
-feeds-joined [] p q s t f h = (f .0 ∙ sym (after-none p), f .1 ∙ sym (rw (made-none p) (apply-none s)))
-feeds-joined (l ∷ ls) p q s t f h =
-    let c = fed-call (f .call) in
-    let e : f .progress ≡ after p l = c .1 ∙ counted-same (after p l) (held-after p l h) in
-    let r = feeds-joined ls (f .progress) q (f .spare) t (f .on) (rw e (held-after p l h)) in (
-      r .0 ∙ rw e (sym (after-append p l (joined ls))),
-      r .1 ∙ rw (c .2, e, made-append p l (joined ls)) (sym (apply-append s (made p l) (made (after p l) (joined ls)))),
-    )
+feeds-joined =
+    joined-by (λ p s l q t. FeedCall p s l (Come q) t) (λ p. p) (λ m n s t l z c. let k = fed-call c in (k .1, k .2))
 
 alike-back : {s t : State} → Alike s t → Alike t s
 alike-back a =
@@ -138,17 +154,17 @@ pub words-come : {live s : State} {p : Progress} (ls : List (List ℕ)) (q : Pro
     → q .come ≡ heldAt (length (joined ls))
 words-come {live} {s} {p} ls q t o f =
     let e = o .progress in
-    let r = feeds-joined ls p q s t f (rw e) in
+    let r = feeds-joined ls p q s t (o .spare-sized) f (rw e) in
     let n : 0 + length (joined ls) ≡ length (joined ls) = omega arith in
     rw (r .0, e) (come-held fresh (joined ls) refl ∙ rw n)
 
 -- "If nobody else writes to either state from opening to close, then for every cutting the verdict, the place counted from the list's start
 -- and the live state are those of reading the joined list at once. The 65,536 limit is on the joined length."; and the reader is then as
 -- freshly opened, so that the next list may come without another opening
-pub record InPieces (live : State) (l : List ℕ) (c : Closed) (live′ spare′ : State) : Type 0 where
-  pub answer : read-told (c .verdict) ≡ readAnswer live l
+pub record InPieces (live : State) (l : List ℕ) (a : Answer) (q : Progress) (live′ spare′ : State) : Type 0 where
+  pub answer : a ≡ readAnswer live l
   pub state : Words live → live′ ≡ readState live l
-  pub opened : Opened live′ (c .progress) spare′
+  pub opened : Opened live′ q spare′
   pub words : Words live → Words live′
 
 module _ (live s : State) (l : List ℕ) (a : sized live ≡ true) (b : sized s ≡ true) (k : Alike s live) where
@@ -161,16 +177,16 @@ module _ (live s : State) (l : List ℕ) (a : sized live ≡ true) (b : sized s 
   fed-both : bothSized live fed ≡ true
   fed-both = rw (a, fed-sized)
 
-  abbrev Closes : Closed → State → State → Type 0
-  Closes c live′ spare′ =
-      (read-told (c .verdict) ≡ closeAnswer (after fresh l) live fed) × (c .progress ≡ closeProgress (after fresh l) live fed)
+  abbrev pub Closes : Answer → Progress → State → State → Type 0
+  Closes v q live′ spare′ =
+      (v ≡ closeAnswer (after fresh l) live fed) × (q ≡ closeProgress (after fresh l) live fed)
       × (live′ ≡ closedLive (after fresh l) live fed) × (spare′ ≡ closedSpare (after fresh l) live fed)
 
   -- for a verdict v at the close, of which the writes made are the expansion where it accepts
   by-verdict : (v : Answer) → closing (after fresh l) ≡ v → readAnswer live l ≡ v → ((m : ℕ) → v ≡ answered m → made fresh l ≡ expansion l)
-      → (c : Closed) (live′ spare′ : State) → Closes c live′ spare′ → InPieces live l c live′ spare′
+      → (u : Answer) (q : Progress) (live′ spare′ : State) → Closes u q live′ spare′ → InPieces live l u q live′ spare′
   unfolding readState
-  by-verdict (answered m) e r x c live′ spare′ h =
+  by-verdict (answered m) e r x u y live′ spare′ h =
       let g = close-accepted live fed (after fresh l) m fed-both (sym e) in
       let n = never-read s live k (made fresh l) in
       let i : live′ ≡ taken live fed = h .2 ∙ sym (g .2) in
@@ -187,7 +203,7 @@ module _ (live s : State) (l : List ℕ) (a : sized live ≡ true) (b : sized s 
             });
         words = λ w. rw i (taken-words live fed a w);
       }
-  by-verdict (refused n q) e r x c live′ spare′ h =
+  by-verdict (refused n q) e r x u y live′ spare′ h =
       let g = close-refused live fed (after fresh l) n q fed-both (sym e) in
       let i : live′ ≡ live = h .2 ∙ sym (g .2) in
       record {
@@ -212,7 +228,8 @@ module _ (live s : State) (l : List ℕ) (a : sized live ≡ true) (b : sized s 
   unfolding readAnswer
   long-answer h = rw (a, lt-leb (length l) 65536 h)
 
-  by-length : Dec (65536 < length l) → (c : Closed) (live′ spare′ : State) → Closes c live′ spare′ → InPieces live l c live′ spare′
+  pub by-length : Dec (65536 < length l) → (u : Answer) (q : Progress) (live′ spare′ : State) → Closes u q live′ spare′
+      → InPieces live l u q live′ spare′
   by-length (yes h) =
       let n : 0 + length l ≡ length l = omega arith in
       let e : after fresh l .come ≡ 65537 = come-held fresh l refl ∙ rw (n, lt-ltb 65536 (length l) h) in
@@ -224,15 +241,16 @@ module _ (live s : State) (l : List ℕ) (a : sized live ≡ true) (b : sized s 
 
 module _ {live s t live′ spare′ : State} {p q : Progress} {c : Closed} (ls : List (List ℕ)) (o : Opened live p s)
     (f : Feeds p s ls q t) (k : CloseCall q live t c live′ spare′) where
-  closes : Closes live s (joined ls) (o .live-sized) (o .spare-sized) (o .alike) c live′ spare′
+  closes : Closes live s (joined ls) (o .live-sized) (o .spare-sized) (o .alike) (read-told (c .verdict)) (c .progress) live′ spare′
   closes =
-      let e = feeds-joined ls p q s t f (rw (o .progress)) in
+      let e = feeds-joined ls p q s t (o .spare-sized) f (rw (o .progress)) in
       let x = close-call k in
       rw (e .0, e .1, o .progress) at x
 
-  pub in-pieces : InPieces live (joined ls) c live′ spare′
+  pub in-pieces : InPieces live (joined ls) (read-told (c .verdict)) (c .progress) live′ spare′
   in-pieces =
-      by-length live s (joined ls) (o .live-sized) (o .spare-sized) (o .alike) (decLt 65536 (length (joined ls))) c live′ spare′ closes
+      by-length live s (joined ls) (o .live-sized) (o .spare-sized) (o .alike) (decLt 65536 (length (joined ls)))
+      (read-told (c .verdict)) (c .progress) live′ spare′ closes
 
   -- against a call of `read` on the live state and the joined list
   pub as-read : {r : ListVerdict} {u : State} → Words live → ReadCall live (joined ls) r u → (c .verdict ≡ r) × (live′ ≡ u)
