@@ -1,14 +1,15 @@
 -- What each call answers and leaves, by the tests that code makes. Assumes nothing.
 use mathlib.Core.Path.{_≡_, refl}
-use mathlib.Core.Bool.{Bool, true, false, _&&_}
+use mathlib.Core.Bool.{true, false}
 use mathlib.Core.List.{List}
 use Prim.Native.Nat.{ℕ}
-use Rattle.numbers.specs.Answer.{Answer, answered, refused}
+use Rattle.numbers.specs.Answer.{answered, refused}
 use Rattle.registers.specs.State.{State, sized}
 use Rattle.registers.specs.Applied.{applyAll}
 use Rattle.pieces.specs.Progress.{fresh, after, made, counted, closing}
 use Rattle.copies.specs.Copy.{taken}
-use Rattle.pieces.specs.Pieces.{wrongLength, bothSized, opening, openedSpare, feeding, fedSpare, closeAnswer, closeProgress, closedLive, closedSpare}
+use Rattle.pieces.specs.Pieces.{wrongLength, bothSized, opening, openedSpare, feeding, fedSpare}
+use Rattle.pieces.specs.Pieces.{closeAnswer, closeProgress, closedLive, closedSpare}
 use Rattle.pieces.specs.declared.Progress.{Progress}
 use Rattle.pieces.specs.declared.Going.the-variants.{Come}
 use Rattle.pieces.proofs.Closing.{and-false}
@@ -45,7 +46,8 @@ module _ (live spare : State) where
 
   -- CLOSING
   pub close-wrong : (p : Progress) → bothSized live spare ≡ false
-      → (refused 6 0 ≡ closeAnswer p live spare) × (p ≡ closeProgress p live spare) × (live ≡ closedLive p live spare) × (spare ≡ closedSpare p live spare)
+      → (refused 6 0 ≡ closeAnswer p live spare) × (p ≡ closeProgress p live spare) × (live ≡ closedLive p live spare)
+      × (spare ≡ closedSpare p live spare)
   unfolding closeAnswer closeProgress closedLive closedSpare
   close-wrong p e = rw e (refl, refl, refl, refl)
 

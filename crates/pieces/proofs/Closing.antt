@@ -1,26 +1,25 @@
 -- A whole list, fed to a fresh reading: at the close its verdict is the list's, and the writes made are the expansion. Assumes nothing.
-use mathlib.Core.Path.{_≡_, refl, sym, ap, _∙_}
+use mathlib.Core.Path.{_≡_, refl, sym, _∙_}
 use mathlib.Core.Bool.{Bool, true, false, _&&_}
 use mathlib.Core.List.{List, [], _∷_, _++_, append-assoc}
-use Prim.Native.Nat.{ℕ, zero, suc, _+_, _-_, _≤_, _<_}
+use Prim.Native.Nat.{ℕ, suc, _+_, _≤_, _<_}
 use native.Mathlib.Decide.{decLt}
 use native.Mathlib.Numerals.{add-one}
 use native.Mathlib.Omega.{arith}
-use lib.Dec.{eqb, ltb}
+use lib.Dec.{eqb}
 use lib.ListN.{length, getD, drop}
 use lib.Seq.{drop-cons}
 use borrow.Author.Tests.{lt-ltb, le-ltb, eq-eqb, ne-eqb}
-use Rattle.numbers.specs.Pick.{pick}
 use Rattle.numbers.specs.Answer.{Answer, answered, refused}
 use Rattle.words.specs.Writes.{Write}
-use Rattle.words.specs.Commands.{commands, join, expansion}
+use Rattle.words.specs.Commands.{expansion}
 use Rattle.words.proofs.Laws.{commands-end, expansion-of, join-none}
 use Rattle.reader.specs.ListVerdict.{verdict}
 use Rattle.reader.proofs.Judging.{judge-end, judge-short, verdict-of}
-use Rattle.pieces.specs.Progress.{fresh, past, extra, padding, headed, started, passed, byWord, next, makes, after, made, between, faultNumber, closing}
+use Rattle.pieces.specs.Progress.{fresh, next, makes, after, made, between, faultNumber, closing}
 use Rattle.pieces.specs.declared.Progress.{Progress}
 use Rattle.pieces.proofs.Steps.{after-none, after-more, made-none, made-more}
-use Rattle.pieces.proofs.Stands.{append-nil, Between, Begun, Inside, Ended, Stands, at-between, at-begun, at-inside, at-end, Goes, step-on}
+use Rattle.pieces.proofs.Stands.{append-nil, Stands, at-between, at-begun, at-inside, at-end, step-on}
 
 -- THE CLOSE, by the tests that code makes
 module _ (p : Progress) where

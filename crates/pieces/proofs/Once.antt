@@ -1,7 +1,6 @@
 -- The promise of each public function settles its calls: any two answers that it allows, with what is then in the lent buffers, are equal.
 -- Assumes nothing.
 use mathlib.Core.Path.{_≡_, refl, ap}
-use Prim.Native.Nat.{ℕ}
 use contract.Lifetimes.{Lfts}
 use borrow.Fn.Kinds.{Dens}
 use denote.Ref.{now}
@@ -55,12 +54,16 @@ means r = (told (r .verdict), r .progress)
 
 pub close-settled : (κs : Lfts 6) (a : Dens κs close-kinds.ps)
     → Settles {B = State × State}
-    (λ e. (st (now (e .1 .0)) (now (e .1 .1 .0)) (now (e .1 .1 .1 .0)), st (now (e .1 .1 .1 .1 .0)) (now (e .1 .1 .1 .1 .1 .0)) (now (e .1 .1 .1 .1 .1 .1 .0))))
+    (λ e. (
+      st (now (e .1 .0)) (now (e .1 .1 .0)) (now (e .1 .1 .1 .0)),
+      st (now (e .1 .1 .1 .1 .0)) (now (e .1 .1 .1 .1 .1 .0)) (now (e .1 .1 .1 .1 .1 .1 .0)),
+    ))
     (close.Post κs a)
 close-settled κs a =
     let live = st (now (a .1 .0)) (now (a .1 .1 .0)) (now (a .1 .1 .1 .0)) in
     let spare = st (now (a .1 .1 .1 .1 .0)) (now (a .1 .1 .1 .1 .1 .0)) (now (a .1 .1 .1 .1 .1 .1 .0)) in
     settled _ _ means
-    (λ r q e. closed-one r q (told-one (r .verdict) (q .verdict) (ap (λ (x : Answer × Progress). x .0) e)) (ap (λ (x : Answer × Progress). x .1) e))
+    (λ r q e. closed-one r q (told-one (r .verdict) (q .verdict) (ap (λ (x : Answer × Progress). x .0) e))
+    (ap (λ (x : Answer × Progress). x .1) e))
     (closeAnswer (a .0) live spare, closeProgress (a .0) live spare) (closedLive (a .0) live spare, closedSpare (a .0) live spare)
     (λ r e p. (rw (p .0, p .1 .0), rw (p .1 .1 .0, p .1 .1 .1)))

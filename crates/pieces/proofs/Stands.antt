@@ -1,28 +1,25 @@
--- Where a reading stands in its list: the progress after the first j words of a list, and the writes made so far, against the list's verdict and its
--- expansion. Assumes nothing.
+-- Where a reading stands after the first j words of a list, against the list's verdict and its expansion. Assumes nothing.
 use mathlib.Core.Path.{_≡_, refl, sym, ap, _∙_}
 use mathlib.Core.Bool.{Bool, true, false, not, _&&_}
 use mathlib.Core.List.{List, [], _∷_, _++_, append-assoc}
-use Prim.Native.Nat.{ℕ, zero, suc, _+_, _-_, _%_, _≤_, _<_}
+use Prim.Native.Nat.{ℕ, _+_, _-_, _≤_, _<_}
 use native.Mathlib.Decide.{decLt}
-use native.Mathlib.Numerals.{add-one}
 use native.Mathlib.Omega.{arith}
 use lib.Dec.{eqb, ltb}
-use lib.ListN.{length, getD, drop, List·getD-eq-default}
-use lib.Seq.{drop-cons}
-use borrow.Author.Tests.{le-ltb, eq-eqb, ne-eqb, eqb-true, eqb-false}
+use lib.ListN.{length, getD}
+use borrow.Author.Tests.{eq-eqb, ne-eqb, eqb-true, eqb-false}
 use Rattle.numbers.specs.Pick.{pick}
-use Rattle.numbers.specs.Answer.{Answer, answered, refused}
+use Rattle.numbers.specs.Answer.{refused}
 use Rattle.words.specs.Header.{idOf, maskOf, countOf, stepOf, wordsOf}
 use Rattle.words.specs.Writes.{Write, writing, jumps, portData, faultOf}
 use Rattle.words.specs.Commands.{headerAt, paramAt, run, expand, commands, join, expansion}
-use Rattle.words.proofs.Laws.{commands-end, commands-step, run-done, run-next, expansion-of, join-none, join-more}
+use Rattle.words.proofs.Laws.{commands-step, run-done, run-next, join-more}
 use Rattle.reader.specs.ListVerdict.{firstFault, judge, verdict}
-use Rattle.reader.proofs.Judging.{run-none, run-good, run-bad, judge-end, judge-short, judge-fault, judge-pass, verdict-of}
+use Rattle.reader.proofs.Judging.{run-none, run-good, run-bad, judge-fault, judge-pass}
 use Rattle.commands.proofs.Runs.{param-later}
-use Rattle.pieces.specs.Progress.{fresh, plus, firstOf, extra, padding, headed, started, passed, next, sound, makes, after, made, between, faultNumber}
+use Rattle.pieces.specs.Progress.{plus, firstOf, extra, padding, headed, started, passed, next, sound, makes, faultNumber}
 use Rattle.pieces.specs.declared.Progress.{Progress}
-use Rattle.pieces.proofs.Steps.{Takes, takes-extra, takes-padding, takes-header, takes-first, takes-nothing, after-none, after-more, made-none, made-more}
+use Rattle.pieces.proofs.Steps.{Takes, takes-extra, takes-padding, takes-header, takes-first, takes-nothing}
 
 pub append-nil : {A : Type 0} (l : List A) → l ++ [] ≡ l
 append-nil [] = refl
@@ -189,7 +186,8 @@ module _ (l : List ℕ) where
     pub stands : Stands j q ws
 
   -- by what the word takes the progress to
-  by-takes : (j : ℕ) (p q : Progress) (x : ℕ) (ws vs : List Write) → Takes p x q vs → Goes j q (ws ++ vs) → Goes j (next p x) (ws ++ makes p x)
+  by-takes : (j : ℕ) (p q : Progress) (x : ℕ) (ws vs : List Write) → Takes p x q vs → Goes j q (ws ++ vs)
+      → Goes j (next p x) (ws ++ makes p x)
   by-takes j p q x ws vs t g = rw (t .progress, t .writes) g
 
   module _ (fits : length l ≤ 65536) (j : ℕ) (p : Progress) (ws : List Write) (c : p .come ≡ j) (low : j < length l) where
@@ -220,17 +218,18 @@ module _ (l : List ℕ) where
     from-begun : Begun j p ws → Goes (j + 1) (next p x) (ws ++ makes p x)
     from-begun s =
         let a = p .place in
-        let e : x ≡ headerAt l a = rw (s .at) in
+        let h = headerAt l a in
+        let e : x ≡ h = rw (s .at) in
         let q = headed p x in
         let k = countOf x in
         let vs = sound (q .fault) (writing (idOf x) (maskOf x) (p .first)) in
         let d : plus (p .writes) (k + 1) ≡ p .writes + (k + 1) = omega (arith, s .few, s .at) in
-        let n : p .writes + (countOf (headerAt l a) + 1) - (countOf (headerAt l a) + 1) ≡ p .writes = omega arith in
-        let o : countOf (headerAt l a) + 1 - countOf (headerAt l a) ≡ 0 + 1 = omega arith in
-        let m : countOf (headerAt l a) + 1 - 1 ≡ countOf (headerAt l a) = omega arith in
+        let n : p .writes + (countOf h + 1) - (countOf h + 1) ≡ p .writes = omega arith in
+        let o : countOf h + 1 - countOf h ≡ 0 + 1 = omega arith in
+        let m : countOf h + 1 - 1 ≡ countOf h = omega arith in
         let none : firstFault (expand l a) ≡ firstOf (p .fault) (firstFault (expand l a)) = rw (eq-eqb (p .fault) 0 (s .fault)) in
-        let w : ws ++ (expand l a ++ join l (commands l (a + wordsOf (headerAt l a)))) ≡ expansion l =
-        rw (commands-step l a (omega (arith, s .at)), join-more l a (commands l (a + wordsOf (headerAt l a)))) at (s .writes) in
+        let w : ws ++ (expand l a ++ join l (commands l (a + wordsOf h))) ≡ expansion l =
+        rw (commands-step l a (omega (arith, s .at)), join-more l a (commands l (a + wordsOf h))) at (s .writes) in
         by-takes (j + 1) p q x ws vs
         (takes-header p x (omega arith) (omega (arith, s .left)) (omega (arith, s .pad)) (omega (arith, s .begun)))
         (record {
@@ -251,11 +250,12 @@ module _ (l : List ℕ) where
                 answer = rw d (rw (e, n) (s .answer));
                 faults =
                     rw (e, o)
-                    (none ∙ rw m at (fault-next true (eqb (faultOf (idOf (headerAt l a)) (maskOf (headerAt l a))) 0) a (countOf (headerAt l a) + 1) 0 (idOf (headerAt l a)) (p .fault)
+                    (none ∙ rw m at (fault-next true (eqb (faultOf (idOf h) (maskOf h)) 0) a (countOf h + 1) 0 (idOf h) (p .fault)
                     (eq-eqb (p .fault) 0 (s .fault)) refl (omega arith)));
                 writes =
                     rw (e, o)
-                    (rw m at (writes-next a (countOf (headerAt l a) + 1) 0 (idOf (headerAt l a)) (p .fault) (p .first) ws _ (expansion l) (omega arith) (s .first) (λ _. w)));
+                    (rw m at (writes-next a (countOf h + 1) 0 (idOf h) (p .fault) (p .first) ws _ (expansion l) (omega arith) (s .first)
+                    (λ _. w)));
               });
         })
 
@@ -265,7 +265,9 @@ module _ (l : List ℕ) where
         go : Dec (0 < p .left) → Goes (j + 1) (next p x) (ws ++ makes p x)
         go (yes b) =
             let a = p .place in
-            let n = countOf (headerAt l a) + 1 in
+            let h = headerAt l a in
+            let n = countOf h + 1 in
+            let i = p .id + stepOf h in
             let q = extra p in
             let d : plus (p .id) (p .step) ≡ p .id + p .step = omega (arith, s .small, s .step) in
             let vs = sound (q .fault) (writing (plus (p .id) (p .step)) (p .mask) x) in
@@ -291,11 +293,10 @@ module _ (l : List ℕ) where
                     faults =
                         s .faults
                         ∙ rw (d, k, s .mask, s .step)
-                        (fault-next (eqb (p .fault) 0) (eqb (faultOf (p .id + stepOf (headerAt l a)) (maskOf (headerAt l a))) 0) a (p .left) (n - p .left) (p .id + stepOf (headerAt l a)) (p .fault)
-                        refl refl b);
+                        (fault-next (eqb (p .fault) 0) (eqb (faultOf i (maskOf h)) 0) a (p .left) (n - p .left) i (p .fault) refl refl b);
                     writes =
                         rw (d, k, s .mask, s .step)
-                        (writes-next a (p .left) (n - p .left) (p .id + stepOf (headerAt l a)) (p .fault) x ws _ (expansion l) b v (rw (s .step) at (s .writes)));
+                        (writes-next a (p .left) (n - p .left) i (p .fault) x ws _ (expansion l) b v (rw (s .step) at (s .writes)));
                   });
             })
         go (no b) =

@@ -2,8 +2,7 @@
 use mathlib.Core.Path.{_≡_, refl, sym, ap, _∙_}
 use mathlib.Core.Bool.{Bool, true, false}
 use mathlib.Core.List.{List, [], _∷_, _++_, append-assoc}
-use Prim.Native.Nat.{ℕ, zero, suc, _+_, _-_, _*_, _%_, _≤_, _<_}
-use native.Mathlib.Decide.{decLt}
+use Prim.Native.Nat.{ℕ, zero, suc, _+_, _-_, _%_, _≤_, _<_}
 use native.Mathlib.Numerals.{add-one}
 use native.Mathlib.Omega.{arith}
 use lib.Dec.{eqb}
@@ -20,10 +19,10 @@ use Rattle.commands.specs.Clear.{lastId, clear}
 use Rattle.commands.proofs.Applying.{apply-append}
 use Rattle.commands.proofs.Clearing.{clear-fault}
 use Rattle.commands.proofs.Runs.{runFrom-done, runFrom-next}
-use Rattle.pieces.specs.Progress.{moved, plus, firstOf, extra, padding, headed, started, next, makes, sound, after, made}
+use Rattle.pieces.specs.Progress.{moved, plus, firstOf, padding, headed, started, after, made}
 use Rattle.pieces.specs.Leads.{Leads}
 use Rattle.pieces.specs.declared.Progress.{Progress}
-use Rattle.pieces.proofs.Steps.{Takes, takes-extra, takes-padding, takes-header, takes-first, after-none, after-more, made-none, made-more}
+use Rattle.pieces.proofs.Steps.{Takes, takes-extra, takes-padding, takes-header, takes-first, after-more, made-more}
 use Rattle.pieces.proofs.Stands.{append-nil}
 
 -- from the progress p before word i of a list to q before word j, by the writes ws
@@ -123,7 +122,8 @@ module _ (l : List ℕ) where
       let i′ : i + 1 + n ≡ i + suc n = omega arith in
       let c′ : p .come + 1 + n ≡ p .come + suc n = omega arith in
       let l′ : p .left - 1 - n ≡ p .left - suc n = omega arith in
-      let one = one-ran p (getD l i 0) (omega arith) (omega arith) f (omega arith) (g (p .id + p .step) (omega arith) (next-within (p .step) (p .id) n d)) in
+      let good = g (p .id + p .step) (omega arith) (next-within (p .step) (p .id) n d) in
+      let one = one-ran p (getD l i 0) (omega arith) (omega arith) f (omega arith) good in
       let rest = ran-way n (i + 1) (ranOne p) (omega arith) (omega arith) (omega arith) f d (omega arith)
       (λ k x y. g k (omega arith) (rw (last-on (p .step) (p .id) n d) at y)) in
       rw (runFrom-next l i (suc n) (p .id + p .step) (p .mask) (p .step) (omega arith), m)
@@ -192,12 +192,14 @@ module _ (l : List ℕ) where
         let one = takes-first p x (omega arith) (omega (arith, left)) (omega (arith, pad)) (omega (arith, begun)) fault in
         let two = takes-header q h (omega arith) (omega (arith, left)) (omega (arith, pad)) (omega arith) in
         rw (j, c, e) at
-        (both-ways l p q (headed q h) i (i + 1) (i + 1 + 1) [] _ (by-word l p q i [] (omega arith) one) (by-word l q (headed q h) (i + 1) _ (omega arith) two))
+        (both-ways l p q (headed q h) i (i + 1) (i + 1 + 1) [] _ (by-word l p q i [] (omega arith) one)
+        (by-word l q (headed q h) (i + 1) _ (omega arith) two))
 
     -- the padding word, where there is one
     abbrev closed : ℕ → Progress
     closed n =
-        moved opened (p .come + 2 + countOf h + n) (lastId (idOf h) (countOf h) (stepOf h)) (countOf h - countOf h) ((2 + countOf h) % 2 - n) 0
+        moved opened (p .come + 2 + countOf h + n) (lastId (idOf h) (countOf h) (stepOf h)) (countOf h - countOf h)
+        ((2 + countOf h) % 2 - n) 0
 
     pad-way : (n : ℕ) → (2 + countOf h) % 2 ≡ n → i + wordsOf h ≤ length l → p .come + wordsOf h ≤ 65536
         → Way l (closed 0) (i + 2 + countOf h) (closed n) (i + 2 + countOf h + n) []

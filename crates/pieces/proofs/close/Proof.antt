@@ -1,5 +1,5 @@
 -- Each way out is one case of the close. Assumes nothing.
-use mathlib.Core.Path.{_≡_, sym, ap, _∙_}
+use mathlib.Core.Path.{sym, ap, _∙_}
 use borrow.Author.Tests.{not-true, not-false}
 use Rattle.registers.specs.State.{st}
 use Rattle.registers.proofs.Sizes.{lengths}
@@ -8,35 +8,22 @@ use Rattle.pieces.proofs.Calls.{wrong-live, wrong-spare, right-both, cl
 use borrow.Author.Needs.{needs}
 use Rattle.pieces.proofs.close.Statement.{statement}
 use Rattle.pieces.proofs.close.Tie as tie
-use Rattle.pieces.proofs.close.Reads as reads
-use Rattle.pieces.proofs.close.Lts as lts
-use Rattle.copies.proofs.take_state.Reads as take-state-reads
-use Rattle.pieces.proofs.fresh_progress.Reads as fresh-progress-reads
-use Rattle.pieces.proofs.verdict_so_far.Reads as verdict-so-far-reads
-use Rattle.pieces.proofs.wrong_length.Reads as wrong-length-reads
-use Rattle.registers.proofs.is_sized.Reads as is-sized-reads
 
--- src/lib.rt:225:9
 is-sized-requires : tie.Need-is-sized-requires
 is-sized-requires c κs = search needs
 
--- src/lib.rt:226:9
 wrong-length-requires : tie.Need-wrong-length-requires
 wrong-length-requires c κs = search needs
 
--- src/lib.rt:226:9
 same-length : tie.Need-same-length
 same-length c = search needs
 
--- src/lib.rt:226:9
 same-length-2 : tie.Need-same-length-2
 same-length-2 c = search needs
 
--- src/lib.rt:226:9
 same-length-3 : tie.Need-same-length-3
 same-length-3 c = search needs
 
--- src/lib.rt:226:9
 returns : tie.Need-returns
 returns c =
     let at-if1 = c .before in
@@ -49,44 +36,36 @@ returns c =
     let w = c .wrong-length .ensures in
     (w .0 ∙ r .0, (w .1 ∙ r .1, (r .2, r .3)))
 
--- src/lib.rt:228:9
 is-sized-requires-2 : tie.Need-is-sized-requires-2
 is-sized-requires-2 c κs = search needs
 
--- src/lib.rt:229:9
 wrong-length-requires-2 : tie.Need-wrong-length-requires-2
 wrong-length-requires-2 c κs = search needs
 
--- src/lib.rt:229:9
 same-length-4 : tie.Need-same-length-4
 same-length-4 c = search needs
 
--- src/lib.rt:229:9
 same-length-5 : tie.Need-same-length-5
 same-length-5 c = search needs
 
--- src/lib.rt:229:9
 same-length-6 : tie.Need-same-length-6
 same-length-6 c = search needs
 
--- src/lib.rt:229:9
 same-length-7 : tie.Need-same-length-7
 same-length-7 c = search needs
 
--- src/lib.rt:229:9
 same-length-8 : tie.Need-same-length-8
 same-length-8 c = search needs
 
--- src/lib.rt:229:9
 same-length-9 : tie.Need-same-length-9
 same-length-9 c = search needs
 
--- src/lib.rt:229:9
 returns-2 : tie.Need-returns-2
 returns-2 c =
     let at-if2 = c .before in
     let at-is-sized2 = at-if2 .before in
-    let at-start = at-is-sized2 .before .before .before .before .before .before .before .before .before .before .before .before .before .before .before in
+    let at-is-sized = at-is-sized2 .before .before .before .before .before in
+    let at-start = at-is-sized .before .before .before .before .before .before .before .before .before .before in
     let a = at-start .args in
     let s = st (a .cells .now) (a .fog .now) (a .light .now) in
     let t = st (a .spare-cells .now) (a .spare-fog .now) (a .spare-light .now) in
@@ -94,23 +73,18 @@ returns-2 c =
     let w = c .wrong-length2 .ensures in
     (w .0 ∙ r .0, (w .1 ∙ r .1, (r .2, r .3)))
 
--- src/lib.rt:231:9
 verdict-so-far-requires : tie.Need-verdict-so-far-requires
 verdict-so-far-requires c κs = search needs
 
--- src/lib.rt:232:9
 fresh-progress-requires : tie.Need-fresh-progress-requires
 fresh-progress-requires c κs = search needs
 
--- src/lib.rt:233:31
 enum-known-verdict : tie.Need-enum-known-verdict
 enum-known-verdict c = search needs
 
--- src/lib.rt:234:28
 enum-told : tie.Need-enum-told
 enum-told c = search needs
 
--- src/lib.rt:234:9
 take-state-requires : tie.Need-take-state-requires
 take-state-requires c κs =
     let at-if2 = c .before .before .before .before .before .before .before .before .before .before in
@@ -125,31 +99,24 @@ take-state-requires c κs =
       lengths s (sym (at-is-sized .is-sized .ensures) ∙ not-false _ (at-if1 .if1 .left)),
     )
 
--- src/lib.rt:235:9
 same-length-10 : tie.Need-same-length-10
 same-length-10 c = search needs
 
--- src/lib.rt:235:9
 same-length-11 : tie.Need-same-length-11
 same-length-11 c = search needs
 
--- src/lib.rt:235:9
 same-length-12 : tie.Need-same-length-12
 same-length-12 c = search needs
 
--- src/lib.rt:235:9
 same-length-13 : tie.Need-same-length-13
 same-length-13 c = search needs
 
--- src/lib.rt:235:9
 same-length-14 : tie.Need-same-length-14
 same-length-14 c = search needs
 
--- src/lib.rt:235:9
 same-length-15 : tie.Need-same-length-15
 same-length-15 c = search needs
 
--- src/lib.rt:235:9
 returns-3 : tie.Need-returns-3
 returns-3 c =
     let at-take-state = c .before .before .before .before .before .before in
@@ -170,7 +137,6 @@ returns-3 c =
     let r = close-refused s t (a .p) _ _ k (sym given ∙ at-verdict-so-far .verdict-so-far .ensures) in
     (given ∙ r .0, (at-fresh-progress .fresh-progress .ensures ∙ r .1, (r .2, at-take-state .take-state .ensures ∙ r .3)))
 
--- src/lib.rt:237:5
 take-state-requires-2 : tie.Need-take-state-requires-2
 take-state-requires-2 c κs =
     let at-if2 = c .before .before .before .before .before .before .before .before .before .before .before in
@@ -185,31 +151,24 @@ take-state-requires-2 c κs =
       lengths t (sym (at-is-sized2 .is-sized2 .ensures) ∙ not-false _ (at-if2 .if2 .left)),
     )
 
--- src/lib.rt:195:1
 same-length-16 : tie.Need-same-length-16
 same-length-16 c = search needs
 
--- src/lib.rt:195:1
 same-length-17 : tie.Need-same-length-17
 same-length-17 c = search needs
 
--- src/lib.rt:195:1
 same-length-18 : tie.Need-same-length-18
 same-length-18 c = search needs
 
--- src/lib.rt:195:1
 same-length-19 : tie.Need-same-length-19
 same-length-19 c = search needs
 
--- src/lib.rt:195:1
 same-length-20 : tie.Need-same-length-20
 same-length-20 c = search needs
 
--- src/lib.rt:195:1
 same-length-21 : tie.Need-same-length-21
 same-length-21 c = search needs
 
--- src/lib.rt:195:1
 returns-4 : tie.Need-returns-4
 returns-4 c =
     let at-take-state2 = c .before .before .before .before .before .before in

@@ -1,5 +1,5 @@
 -- Each way out is one case of the feeding. Assumes nothing.
-use mathlib.Core.Path.{_≡_, sym, _∙_}
+use mathlib.Core.Path.{sym, _∙_}
 use borrow.Author.Tests.{not-true, not-false}
 use Rattle.registers.specs.State.{st}
 use Rattle.registers.proofs.Sizes.{lengths}
@@ -7,29 +7,19 @@ use Rattle.pieces.proofs.Calls.{feed-wrong, feed-right}
 use borrow.Author.Needs.{needs}
 use Rattle.pieces.proofs.feed.Statement.{statement}
 use Rattle.pieces.proofs.feed.Tie as tie
-use Rattle.pieces.proofs.feed.Reads as reads
-use Rattle.pieces.proofs.feed.Lts as lts
-use Rattle.pieces.proofs.held_count.Reads as held-count-reads
-use Rattle.pieces.proofs.parts.take_part.Reads as take-part-reads
-use Rattle.registers.proofs.is_sized.Reads as is-sized-reads
 
--- src/lib.rt:127:9
 is-sized-requires : tie.Need-is-sized-requires
 is-sized-requires c κs = search needs
 
--- src/lib.rt:128:9
 same-length : tie.Need-same-length
 same-length c = search needs
 
--- src/lib.rt:128:9
 same-length-2 : tie.Need-same-length-2
 same-length-2 c = search needs
 
--- src/lib.rt:128:9
 same-length-3 : tie.Need-same-length-3
 same-length-3 c = search needs
 
--- src/lib.rt:128:9
 returns : tie.Need-returns
 returns c =
     let at-is-sized = c .before in
@@ -38,7 +28,6 @@ returns c =
     let s = st (a .cells .now) (a .fog .now) (a .light .now) in
     feed-wrong (a .p) s (a .part .now) (sym (at-is-sized .is-sized .ensures) ∙ not-true _ (c .if1 .taken))
 
--- src/lib.rt:133:28
 take-part-requires : tie.Need-take-part-requires
 take-part-requires c κs =
     let at-if1 = c .before .before .before in
@@ -48,23 +37,18 @@ take-part-requires c κs =
     let s = st (a .cells .now) (a .fog .now) (a .light .now) in
     lengths s (sym (at-is-sized .is-sized .ensures) ∙ not-false _ (at-if1 .if1 .left))
 
--- src/lib.rt:133:17
 held-count-requires : tie.Need-held-count-requires
 held-count-requires c κs = search needs
 
--- src/lib.rt:112:1
 same-length-4 : tie.Need-same-length-4
 same-length-4 c = search needs
 
--- src/lib.rt:112:1
 same-length-5 : tie.Need-same-length-5
 same-length-5 c = search needs
 
--- src/lib.rt:112:1
 same-length-6 : tie.Need-same-length-6
 same-length-6 c = search needs
 
--- src/lib.rt:112:1
 returns-2 : tie.Need-returns-2
 returns-2 c =
     let at-take-part = c .before .before .before .before .before .before .before in

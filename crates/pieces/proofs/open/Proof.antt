@@ -1,5 +1,5 @@
 -- Each way out is one case of the opening. Assumes nothing.
-use mathlib.Core.Path.{_≡_, sym, _∙_}
+use mathlib.Core.Path.{sym, _∙_}
 use borrow.Author.Tests.{not-true, not-false}
 use Rattle.registers.specs.State.{st}
 use Rattle.registers.proofs.Sizes.{lengths}
@@ -7,17 +7,10 @@ use Rattle.pieces.proofs.Calls.{wrong-live, wrong-spare, right-both, op
 use borrow.Author.Needs.{needs}
 use Rattle.pieces.proofs.open.Statement.{statement}
 use Rattle.pieces.proofs.open.Tie as tie
-use Rattle.pieces.proofs.open.Reads as reads
-use Rattle.pieces.proofs.open.Lts as lts
-use Rattle.copies.proofs.take_state.Reads as take-state-reads
-use Rattle.pieces.proofs.fresh_progress.Reads as fresh-progress-reads
-use Rattle.registers.proofs.is_sized.Reads as is-sized-reads
 
--- src/lib.rt:83:9
 is-sized-requires : tie.Need-is-sized-requires
 is-sized-requires c κs = search needs
 
--- src/lib.rt:84:9
 returns : tie.Need-returns
 returns c =
     let at-is-sized = c .before in
@@ -27,23 +20,18 @@ returns c =
     let t = st (a .spare-cells .now) (a .spare-fog .now) (a .spare-light .now) in
     open-wrong s t (wrong-live s t (sym (at-is-sized .is-sized .ensures) ∙ not-true _ (c .if1 .taken)))
 
--- src/lib.rt:89:9
 is-sized-requires-2 : tie.Need-is-sized-requires-2
 is-sized-requires-2 c κs = search needs
 
--- src/lib.rt:90:9
 same-length : tie.Need-same-length
 same-length c = search needs
 
--- src/lib.rt:90:9
 same-length-2 : tie.Need-same-length-2
 same-length-2 c = search needs
 
--- src/lib.rt:90:9
 same-length-3 : tie.Need-same-length-3
 same-length-3 c = search needs
 
--- src/lib.rt:90:9
 returns-2 : tie.Need-returns-2
 returns-2 c =
     let at-is-sized2 = c .before in
@@ -53,7 +41,6 @@ returns-2 c =
     let t = st (a .spare-cells .now) (a .spare-fog .now) (a .spare-light .now) in
     open-wrong s t (wrong-spare s t (sym (at-is-sized2 .is-sized2 .ensures) ∙ not-true _ (c .if2 .taken)))
 
--- src/lib.rt:95:5
 take-state-requires : tie.Need-take-state-requires
 take-state-requires c κs =
     let at-if2 = c .before .before .before in
@@ -68,23 +55,18 @@ take-state-requires c κs =
       lengths s (sym (at-is-sized .is-sized .ensures) ∙ not-false _ (at-if1 .if1 .left)),
     )
 
--- src/lib.rt:96:17
 fresh-progress-requires : tie.Need-fresh-progress-requires
 fresh-progress-requires c κs = search needs
 
--- src/lib.rt:64:1
 same-length-4 : tie.Need-same-length-4
 same-length-4 c = search needs
 
--- src/lib.rt:64:1
 same-length-5 : tie.Need-same-length-5
 same-length-5 c = search needs
 
--- src/lib.rt:64:1
 same-length-6 : tie.Need-same-length-6
 same-length-6 c = search needs
 
--- src/lib.rt:64:1
 returns-3 : tie.Need-returns-3
 returns-3 c =
     let at-take-state = c .before .before .before .before .before .before .before in

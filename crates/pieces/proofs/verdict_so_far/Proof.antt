@@ -1,27 +1,20 @@
 -- Each way out is one case of the close. Assumes nothing.
-use mathlib.Core.Path.{sym, _∙_}
+use mathlib.Core.Path.{sym}
 use Rattle.pieces.proofs.Closing.{closes-long, closes-short, closes-accepted, closes-fault}
 use borrow.Author.Needs.{needs}
 use Rattle.pieces.proofs.verdict_so_far.Statement.{statement}
 use Rattle.pieces.proofs.verdict_so_far.Tie as tie
-use Rattle.pieces.proofs.verdict_so_far.Reads as reads
-use Rattle.pieces.proofs.verdict_so_far.Lts as lts
-use Rattle.pieces.proofs.fault_number.Reads as fault-number-reads
 
--- src/lib.rt:154:9
 returns : tie.Need-returns
 returns c =
     sym (closes-long _ (c .if1 .taken))
 
--- src/lib.rt:162:25
 fault-number-requires : tie.Need-fault-number-requires
 fault-number-requires c κs = search needs
 
--- src/lib.rt:163:24
 cast-t10 : tie.Need-cast-t10
 cast-t10 c = search needs
 
--- src/lib.rt:161:13
 returns-2 : tie.Need-returns-2
 returns-2 c =
     let at-fault-number = c .before in
@@ -29,13 +22,12 @@ returns-2 c =
     let at-if2 = at-if3 .before .before in
     let at-if1 = at-if2 .before .before .before .before in
     let at-start = at-if1 .before .before in
-    rw (at-fault-number .fault-number .ensures) (sym (closes-fault (at-start .args .p) (at-if1 .if1 .left) (at-if2 .if2 .taken) (at-if3 .if3 .taken)))
+    let e = closes-fault (at-start .args .p) (at-if1 .if1 .left) (at-if2 .if2 .taken) (at-if3 .if3 .taken) in
+    rw (at-fault-number .fault-number .ensures) (sym e)
 
--- src/lib.rt:166:38
 cast-t12 : tie.Need-cast-t12
 cast-t12 c = search needs
 
--- src/lib.rt:166:9
 returns-3 : tie.Need-returns-3
 returns-3 c =
     let at-if3 = c .before in
@@ -44,11 +36,9 @@ returns-3 c =
     let at-start = at-if1 .before .before in
     sym (closes-accepted (at-start .args .p) (at-if1 .if1 .left) (at-if2 .if2 .taken) (at-if3 .if3 .left))
 
--- src/lib.rt:170:16
 cast-t13 : tie.Need-cast-t13
 cast-t13 c = search needs
 
--- src/lib.rt:150:1
 returns-4 : tie.Need-returns-4
 returns-4 c =
     let at-if2 = c .before in

@@ -1,42 +1,31 @@
 -- Nothing where there is a fault, else one write. Assumes nothing.
-use mathlib.Core.Path.{_≡_, _∙_}
+use mathlib.Core.Path.{_∙_}
 use Rattle.words.specs.Writes.{writing}
 use Rattle.registers.specs.State.{st}
 use Rattle.pieces.proofs.Makes.{sound-none, sound-one}
 use borrow.Author.Needs.{needs}
 use Rattle.pieces.proofs.parts.put_sound.Statement.{statement}
 use Rattle.pieces.proofs.parts.put_sound.Tie as tie
-use Rattle.pieces.proofs.parts.put_sound.Reads as reads
-use Rattle.pieces.proofs.parts.put_sound.Lts as lts
-use Rattle.ports.proofs.spread_mask.Reads as spread-mask-reads
-use Rattle.registers.proofs.put_one.Reads as put-one-reads
 
--- src/parts.rt:43:9
 returns : tie.Need-returns
 returns c =
     sound-none _ _ _ (c .if1 .taken)
 
--- src/parts.rt:45:9
 spread-mask-requires : tie.Need-spread-mask-requires
 spread-mask-requires c κs = search needs
 
--- src/parts.rt:46:5
 put-one-requires : tie.Need-put-one-requires
 put-one-requires c κs = search needs
 
--- src/parts.rt:25:1
 same-length : tie.Need-same-length
 same-length c = search needs
 
--- src/parts.rt:25:1
 same-length-2 : tie.Need-same-length-2
 same-length-2 c = search needs
 
--- src/parts.rt:25:1
 same-length-3 : tie.Need-same-length-3
 same-length-3 c = search needs
 
--- src/parts.rt:25:1
 returns-2 : tie.Need-returns-2
 returns-2 c =
     let at-put-one = c .before .before .before .before .before .before in

@@ -1,5 +1,5 @@
 -- The invariant: the commands so far lead from the first to here. Assumes nothing.
-use mathlib.Core.Path.{_≡_, refl, sym, _∙_}
+use mathlib.Core.Path.{_≡_}
 use mathlib.Core.Bool.{true}
 use Prim.Native.Nat.{ℕ, _+_, _-_, _*_, _/_, _≤_, _<_}
 use native.Mathlib.Omega.{arith}
@@ -16,14 +16,6 @@ use Rattle.pieces.proofs.Ways.{command-way, leads-by, leads-none, leads
 use Rattle.pieces.proofs.Choices.{whole-facts}
 use Rattle.pieces.proofs.parts.take_commands.Statement.{statement}
 use Rattle.pieces.proofs.parts.take_commands.Tie as tie
-use Rattle.pieces.proofs.parts.take_commands.Reads as reads
-use Rattle.pieces.proofs.parts.take_commands.Lts as lts
-use Rattle.commands.proofs.apply_run.Reads as apply-run-reads
-use Rattle.commands.proofs.is_clear.Reads as is-clear-reads
-use Rattle.commands.proofs.last_id.Reads as last-id-reads
-use Rattle.std.proofs.num.wrapping_add_u32.Reads as wrapping-add-u32-reads
-use Rattle.words.proofs.parts.Reads as parts-reads
-use Rattle.words.proofs.words_taken.Reads as words-taken-reads
 
 -- p after some commands
 abbrev so-far : Progress → ℕ → ℕ → ℕ → ℕ → ℕ → ℕ → ℕ → Progress
@@ -43,12 +35,14 @@ so-far p come place first id mask step writes =
     }
 
 abbrev Inv-commands : tie.InvT-commands
-Inv-commands p cells₀ fog₀ light₀ slots held part at come₀ place₀ first₀ id₀ mask₀ step₀ writes₀ i₀ cells fog light come place first id mask step writes i =
+Inv-commands p cells₀ fog₀ light₀ slots held part at come₀ place₀ first₀ id₀ mask₀ step₀ writes₀ i₀
+    cells fog light come place first id mask step writes i =
     (length cells ≡ 768) × (length fog ≡ 128) × (length light ≡ 6144)
     × Leads part p at (st cells₀ fog₀ light₀) (so-far p come place first id mask step writes) i (st cells fog light) × (come < 0x100000000)
 
 abbrev μ-commands : tie.MeasureT-commands
-μ-commands p cells₀ fog₀ light₀ slots held part at come₀ place₀ first₀ id₀ mask₀ step₀ writes₀ i₀ cells fog light come place first id mask step writes i =
+μ-commands p cells₀ fog₀ light₀ slots held part at come₀ place₀ first₀ id₀ mask₀ step₀ writes₀ i₀
+    cells fog light come place first id mask step writes i =
     length part - i
 
 -- the next command's words are here and below the limit, and none of its writes can be at fault
@@ -82,62 +76,52 @@ facts c =
     )
     (not-false _ (c .if1 .left)))
 
--- src/parts.rt:194:5
 commands-holds : tie.Need-commands-holds Inv-commands μ-commands
 commands-holds c =
     let at-start = c .before .before .before .before in
     let a = at-start .args in
     let b = at-start .pre in
-    (b .0 .0 .0, b .0 .0 .1, b .0 .0 .2, leads-none (a .part .now) (a .p) (a .at) (st (a .cells .now) (a .fog .now) (a .light .now)) (b .1 .0), search needs)
+    let s = st (a .cells .now) (a .fog .now) (a .light .now) in
+    (b .0 .0 .0, b .0 .0 .1, b .0 .0 .2, leads-none (a .part .now) (a .p) (a .at) s (b .1 .0), search needs)
 
--- src/parts.rt:194:27
 sub-commands : tie.Need-sub-commands Inv-commands μ-commands
 sub-commands c =
     omega (arith, c .commands .inv .3 .inside)
 
--- src/parts.rt:195:35
 add-parts : tie.Need-add-parts Inv-commands μ-commands
 add-parts c =
     let at-start = c .before .before .before .before .before .before in
     omega (arith, at-start .good, c .commands-test .taken)
 
--- src/parts.rt:195:30
 mul-parts : tie.Need-mul-parts Inv-commands μ-commands
 mul-parts c =
     let at-start = c .before .before .before .before .before .before in
     omega (arith, at-start .good, c .commands-test .taken)
 
--- src/parts.rt:195:30
 shared-slice-read-parts : tie.Need-shared-slice-read-parts Inv-commands μ-commands
 shared-slice-read-parts c =
     let at-commands-test = c .before in
     omega (arith, at-commands-test .commands-test .taken)
 
--- src/parts.rt:195:13
 parts-requires : tie.Need-parts-requires Inv-commands μ-commands
 parts-requires c κs = search needs
 
--- src/parts.rt:196:13
 words-taken-requires : tie.Need-words-taken-requires Inv-commands μ-commands
 words-taken-requires c κs = search needs
 
--- src/parts.rt:197:13
 last-id-requires : tie.Need-last-id-requires Inv-commands μ-commands
 last-id-requires c κs = search needs
 
--- src/parts.rt:198:30
 sub-here : tie.Need-sub-here Inv-commands μ-commands
 sub-here c =
     let at-commands = c .before .before .before .before .before in
     omega (arith, at-commands .commands .inv .3 .inside)
 
--- src/parts.rt:198:49
 cast-here : tie.Need-cast-here Inv-commands μ-commands
 cast-here c =
     let at-commands = c .before .before .before .before .before in
     omega (arith, at-commands .commands .inv .4)
 
--- src/parts.rt:198:49
 add-here : tie.Need-add-here Inv-commands μ-commands
 add-here c =
     let at-words-taken = c .before in
@@ -145,26 +129,21 @@ add-here c =
     let at-commands = at-parts .before .before .before in
     omega (arith, at-commands .commands .inv .4, at-words-taken .words-taken .ensures, at-parts .parts .ensures .2)
 
--- src/parts.rt:199:21
 is-clear-requires : tie.Need-is-clear-requires Inv-commands μ-commands
 is-clear-requires c κs = search needs
 
--- src/parts.rt:202:64
 mul-apply-run : tie.Need-mul-apply-run Inv-commands μ-commands
 mul-apply-run c = search needs
 
--- src/parts.rt:202:64
 shared-slice-read-apply-run : tie.Need-shared-slice-read-apply-run Inv-commands μ-commands
 shared-slice-read-apply-run c = search needs
 
--- src/parts.rt:202:79
 add-apply-run : tie.Need-add-apply-run Inv-commands μ-commands
 add-apply-run c =
     let at-commands-test = c .before .before .before .before .before .before .before .before .before .before in
     let at-start = at-commands-test .before .before .before .before .before .before in
     omega (arith, at-start .good, at-commands-test .commands-test .taken)
 
--- src/parts.rt:202:9
 apply-run-requires : tie.Need-apply-run-requires Inv-commands μ-commands
 apply-run-requires c κs =
     let at-if1 = c .before .before .before .before in
@@ -174,64 +153,62 @@ apply-run-requires c κs =
     let at-start = at-commands .before .before .before .before .before in
     let h = at-parts .parts .ensures in
     let f = facts at-if1 in
-    let o = at-commands .commands .inv in
-    (((o .0, o .1, o .2), at-start .pre .0 .1), (omega (arith, h .0), omega (arith, h .2), omega (arith, h .3), omega (arith, h .2, f .0, at-commands-test .commands-test .taken), omega arith))
+    let t = at-commands-test .commands-test .taken in
+    let o = at-commands .commands .inv in (
+      ((o .0, o .1, o .2), at-start .pre .0 .1),
+      (omega (arith, h .0), omega (arith, h .2), omega (arith, h .3), omega (arith, h .2, f .0, t), omega arith),
+    )
 
--- src/parts.rt:204:18
 add-come : tie.Need-add-come Inv-commands μ-commands
 add-come c = search needs
 
--- src/parts.rt:204:17
 mul-come : tie.Need-mul-come Inv-commands μ-commands
 mul-come c = search needs
 
--- src/parts.rt:204:9
 add-come-2 : tie.Need-add-come-2 Inv-commands μ-commands
 add-come-2 c =
     let at-if1 = c .before .before .before .before .before .before .before .before .before .before .before .before in
     let at-parts = at-if1 .before .before .before .before in
     omega (arith, at-parts .parts .ensures .2, facts at-if1 .1)
 
--- src/parts.rt:205:17
 mul-first : tie.Need-mul-first Inv-commands μ-commands
 mul-first c =
-    let at-commands-test = c .before .before .before .before .before .before .before .before .before .before .before .before .before .before .before .before .before .before in
+    let at-if1 = c .before .before .before .before .before .before .before .before .before .before .before .before in
+    let at-commands-test = at-if1 .before .before .before .before .before .before in
     let at-start = at-commands-test .before .before .before .before .before .before in
     omega (arith, at-start .good, at-commands-test .commands-test .taken)
 
--- src/parts.rt:205:17
 shared-slice-read-first : tie.Need-shared-slice-read-first Inv-commands μ-commands
 shared-slice-read-first c = search needs
 
--- src/parts.rt:209:53
 add-wrapping-add-u32 : tie.Need-add-wrapping-add-u32 Inv-commands μ-commands
 add-wrapping-add-u32 c =
-    let at-parts = c .before .before .before .before .before .before .before .before .before .before .before .before .before .before .before .before .before .before in
+    let at-apply-run = c .before .before .before .before .before .before .before .before .before in
+    let at-parts = at-apply-run .before .before .before .before .before .before .before .before .before in
     omega (arith, at-parts .parts .ensures .2)
 
--- src/parts.rt:209:9
 wrapping-add-u32-requires : tie.Need-wrapping-add-u32-requires Inv-commands μ-commands
 wrapping-add-u32-requires c κs = search needs
 
--- src/parts.rt:210:9
 add-i : tie.Need-add-i Inv-commands μ-commands
 add-i c =
-    let at-words-taken = c .before .before .before .before .before .before .before .before .before .before .before .before .before .before .before .before .before .before in
+    let at-apply-run = c .before .before .before .before .before .before .before .before .before .before in
+    let at-words-taken = at-apply-run .before .before .before .before .before .before .before .before in
     let at-parts = at-words-taken .before in
     let at-commands-test = at-parts .before .before in
     let at-start = at-commands-test .before .before .before .before .before .before in
     omega (arith, at-start .good, at-words-taken .words-taken .ensures, at-parts .parts .ensures .2, at-commands-test .commands-test .taken)
 
--- src/parts.rt:194:5
 commands-less : tie.Need-commands-less Inv-commands μ-commands
 commands-less c =
-    let at-if1 = c .before .before .before .before .before .before .before .before .before .before .before .before .before .before .before in
+    let at-apply-run = c .before .before .before .before .before .before .before .before .before .before in
+    let at-if1 = at-apply-run .before .before .before .before .before in
     let at-words-taken = at-if1 .before .before .before in
     let at-parts = at-words-taken .before in
     let at-commands-test = at-parts .before .before in
-    omega (arith, at-words-taken .words-taken .ensures, at-parts .parts .ensures .2, facts at-if1 .0, at-commands-test .commands-test .taken)
+    let w = at-words-taken .words-taken .ensures in
+    omega (arith, w, at-parts .parts .ensures .2, facts at-if1 .0, at-commands-test .commands-test .taken)
 
--- src/parts.rt:194:5
 commands-again : tie.Need-commands-again Inv-commands μ-commands
 commands-again c =
     let at-apply-run = c .before .before .before .before .before .before .before .before .before .before in
@@ -267,37 +244,29 @@ commands-again c =
       omega (arith, h .2, f .1),
     )
 
--- src/parts.rt:169:1
 same-length : tie.Need-same-length Inv-commands μ-commands
 same-length c = search needs
 
--- src/parts.rt:169:1
 same-length-2 : tie.Need-same-length-2 Inv-commands μ-commands
 same-length-2 c = search needs
 
--- src/parts.rt:169:1
 same-length-3 : tie.Need-same-length-3 Inv-commands μ-commands
 same-length-3 c = search needs
 
--- src/parts.rt:169:1
 returns : tie.Need-returns Inv-commands μ-commands
 returns c =
     let at-commands = c .before in
     at-commands .commands .inv .3
 
--- src/parts.rt:169:1
 same-length-4 : tie.Need-same-length-4 Inv-commands μ-commands
 same-length-4 c = search needs
 
--- src/parts.rt:169:1
 same-length-5 : tie.Need-same-length-5 Inv-commands μ-commands
 same-length-5 c = search needs
 
--- src/parts.rt:169:1
 same-length-6 : tie.Need-same-length-6 Inv-commands μ-commands
 same-length-6 c = search needs
 
--- src/parts.rt:169:1
 returns-2 : tie.Need-returns-2 Inv-commands μ-commands
 returns-2 c =
     let at-commands = c .before .before .before .before .before .before .before in

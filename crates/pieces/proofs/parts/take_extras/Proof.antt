@@ -1,25 +1,14 @@
 -- The run is a way. Assumes nothing.
-use mathlib.Core.Path.{_≡_, refl, sym, ap, _∙_}
-use mathlib.Core.Bool.{true}
-use Prim.Native.Nat.{ℕ, _+_, _-_, _≤_, _<_}
+use mathlib.Core.Path.{_≡_, sym, _∙_}
+use Prim.Native.Nat.{_≤_}
 use native.Mathlib.Omega.{arith}
-use lib.ListN.{length, getD}
 use borrow.Author.Tests.{not-false}
 use Rattle.registers.specs.State.{st}
-use Rattle.commands.specs.Clear.{lastId, clear}
-use Rattle.commands.proofs.Clearing.{clear-fault}
 use Rattle.pieces.proofs.Ways.{run-way, leads-by}
 use Rattle.pieces.proofs.Choices.{run-facts}
 use borrow.Author.Needs.{needs}
 use Rattle.pieces.proofs.parts.take_extras.Statement.{statement}
 use Rattle.pieces.proofs.parts.take_extras.Tie as tie
-use Rattle.pieces.proofs.parts.take_extras.Reads as reads
-use Rattle.pieces.proofs.parts.take_extras.Lts as lts
-use Rattle.commands.proofs.apply_run.Reads as apply-run-reads
-use Rattle.commands.proofs.is_clear.Reads as is-clear-reads
-use Rattle.commands.proofs.last_id.Reads as last-id-reads
-use Rattle.pieces.proofs.parts.run_length.Reads as run-length-reads
-use Rattle.pieces.proofs.parts.take_one.Reads as take-one-reads
 
 -- the reading is at no fault, its ids stay or rise by one, and it is below the limit
 plain : (c : tie.Else1) →
@@ -29,100 +18,82 @@ plain c =
     let p = c .before .before .before .before .before .before .before .before .before .args .p in
     run-facts (p .fault) (p .step) (p .id) (p .come) (not-false _ (c .if1 .left))
 
--- src/parts.rt:243:9
 take-one-requires : tie.Need-take-one-requires
 take-one-requires c κs = search needs
 
--- src/parts.rt:243:9
 same-length : tie.Need-same-length
 same-length c = search needs
 
--- src/parts.rt:243:9
 same-length-2 : tie.Need-same-length-2
 same-length-2 c = search needs
 
--- src/parts.rt:243:9
 same-length-3 : tie.Need-same-length-3
 same-length-3 c = search needs
 
--- src/parts.rt:243:9
 returns : tie.Need-returns
 returns c = search needs
 
--- src/parts.rt:245:40
 sub-run-length : tie.Need-sub-run-length
 sub-run-length c = search needs
 
--- src/parts.rt:245:9
 run-length-requires : tie.Need-run-length-requires
 run-length-requires c κs =
     let at-start = c .before .before .before .before .before .before .before .before .before in
     (at-start .pre .1 .1, plain c .3, omega (arith, at-start .pre .1 .0))
 
--- src/parts.rt:246:17
 add-first : tie.Need-add-first
 add-first c =
     let at-if1 = c .before .before in
     omega (arith, plain at-if1 .1, plain at-if1 .2)
 
--- src/parts.rt:247:41
 sub-last-id : tie.Need-sub-last-id
 sub-last-id c = search needs
 
--- src/parts.rt:247:9
 last-id-requires : tie.Need-last-id-requires
 last-id-requires c κs =
     let at-run-length = c .before in
     let at-if1 = at-run-length .before in
     (omega (arith, plain at-if1 .1, plain at-if1 .2), omega (arith, at-run-length .run-length .ensures .4))
 
--- src/parts.rt:248:9
 is-clear-requires : tie.Need-is-clear-requires
 is-clear-requires c κs = search needs
 
--- src/parts.rt:249:9
 take-one-requires-2 : tie.Need-take-one-requires-2
 take-one-requires-2 c κs =
-    let at-start = c .before .before .before .before .before .before .before .before .before .before .before .before .before .before .before .before .before in
+    let at-run-length = c .before .before .before .before .before .before .before in
+    let at-start = at-run-length .before .before .before .before .before .before .before .before .before .before in
     (at-start .pre .0, at-start .pre .1 .0)
 
--- src/parts.rt:249:9
 same-length-4 : tie.Need-same-length-4
 same-length-4 c = search needs
 
--- src/parts.rt:249:9
 same-length-5 : tie.Need-same-length-5
 same-length-5 c = search needs
 
--- src/parts.rt:249:9
 same-length-6 : tie.Need-same-length-6
 same-length-6 c = search needs
 
--- src/parts.rt:249:9
 returns-2 : tie.Need-returns-2
 returns-2 c = search needs
 
--- src/parts.rt:254:16
 sub-apply-run : tie.Need-sub-apply-run
 sub-apply-run c = search needs
 
--- src/parts.rt:257:60
 mul-apply-run : tie.Need-mul-apply-run
 mul-apply-run c =
-    let at-start = c .before .before .before .before .before .before .before .before .before .before .before .before .before .before .before .before .before in
+    let at-run-length = c .before .before .before .before .before .before .before in
+    let at-start = at-run-length .before .before .before .before .before .before .before .before .before .before in
     omega (arith, at-start .good, at-start .pre .1 .0)
 
--- src/parts.rt:257:60
 shared-slice-read-apply-run : tie.Need-shared-slice-read-apply-run
 shared-slice-read-apply-run c = search needs
 
--- src/parts.rt:257:76
 add-apply-run : tie.Need-add-apply-run
 add-apply-run c =
-    let at-start = c .before .before .before .before .before .before .before .before .before .before .before .before .before .before .before .before .before .before in
+    let at-run-length = c .before .before .before .before .before .before .before .before in
+    let at-start = at-run-length .before .before .before .before .before .before .before .before .before .before in
     omega (arith, at-start .good, at-start .pre .1 .0)
 
--- src/parts.rt:257:5
 apply-run-requires : tie.Need-apply-run-requires
 apply-run-requires c κs =
     let at-run-length = c .before .before .before .before .before .before .before .before in
@@ -132,38 +103,31 @@ apply-run-requires c κs =
     let f = plain at-if1 in
     (at-start .pre .0, (omega (arith, f .1, f .2), omega (arith, n .4), f .1, omega (arith, n .0, n .3, at-start .pre .1 .0), omega arith))
 
--- src/parts.rt:259:14
 add-q : tie.Need-add-q
 add-q c = search needs
 
--- src/parts.rt:261:14
 sub-q : tie.Need-sub-q
 sub-q c = search needs
 
--- src/parts.rt:264:18
 cast-t29 : tie.Need-cast-t29
 cast-t29 c = search needs
 
--- src/parts.rt:264:13
 add-t28 : tie.Need-add-t28
 add-t28 c =
-    let at-run-length = c .before .before .before .before .before .before .before .before .before .before .before .before .before .before .before .before .before in
+    let at-apply-run = c .before .before .before .before .before .before .before .before in
+    let at-run-length = at-apply-run .before .before .before .before .before .before .before .before .before in
     let at-start = at-run-length .before .before .before .before .before .before .before .before .before .before in
     omega (arith, at-start .good, at-start .pre .1 .0, at-run-length .run-length .ensures .4)
 
--- src/parts.rt:225:1
 same-length-7 : tie.Need-same-length-7
 same-length-7 c = search needs
 
--- src/parts.rt:225:1
 same-length-8 : tie.Need-same-length-8
 same-length-8 c = search needs
 
--- src/parts.rt:225:1
 same-length-9 : tie.Need-same-length-9
 same-length-9 c = search needs
 
--- src/parts.rt:225:1
 returns-3 : tie.Need-returns-3
 returns-3 c =
     let at-apply-run = c .before .before .before .before .before .before .before .before in

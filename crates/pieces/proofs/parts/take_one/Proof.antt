@@ -1,48 +1,37 @@
 -- One word is one step. Assumes nothing.
-use mathlib.Core.Path.{_≡_, refl, sym, _∙_}
-use Prim.Native.Nat.{_+_, _≤_, _<_}
+use mathlib.Core.Path.{refl}
+use Prim.Native.Nat.{_+_}
 use native.Mathlib.Omega.{arith}
-use lib.ListN.{getD}
 use Rattle.registers.specs.State.{st}
 use Rattle.pieces.proofs.Ways.{by-word, leads-by}
 use borrow.Author.Needs.{needs}
 use Rattle.pieces.proofs.parts.take_one.Statement.{statement}
 use Rattle.pieces.proofs.parts.take_one.Tie as tie
-use Rattle.pieces.proofs.parts.take_one.Reads as reads
-use Rattle.pieces.proofs.parts.take_one.Lts as lts
-use Rattle.pieces.proofs.parts.take_word.Reads as take-word-reads
 
--- src/parts.rt:158:65
 mul-take-word : tie.Need-mul-take-word
 mul-take-word c = search needs
 
--- src/parts.rt:158:65
 shared-slice-read-take-word : tie.Need-shared-slice-read-take-word
 shared-slice-read-take-word c = search needs
 
--- src/parts.rt:158:9
 take-word-requires : tie.Need-take-word-requires
 take-word-requires c κs = search needs
 
--- src/parts.rt:161:13
 add-t16 : tie.Need-add-t16
 add-t16 c =
-    let at-start = c .before .before .before .before .before .before .before .before .before .before .before .before .before .before .before in
+    let at-take-word = c .before .before .before .before .before .before in
+    let at-start = at-take-word .before .before .before .before .before .before .before .before .before in
     omega (arith, at-start .good, at-start .pre .1)
 
--- src/parts.rt:141:1
 same-length : tie.Need-same-length
 same-length c = search needs
 
--- src/parts.rt:141:1
 same-length-2 : tie.Need-same-length-2
 same-length-2 c = search needs
 
--- src/parts.rt:141:1
 same-length-3 : tie.Need-same-length-3
 same-length-3 c = search needs
 
--- src/parts.rt:141:1
 returns : tie.Need-returns
 returns c =
     let at-take-word = c .before .before .before .before .before .before in

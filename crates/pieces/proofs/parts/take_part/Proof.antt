@@ -1,6 +1,6 @@
 -- The invariant: what is left of the part leads from here to where the whole part leads. Assumes nothing.
 use mathlib.Core.Path.{_≡_, refl, sym, _∙_}
-use Prim.Native.Nat.{_+_, _-_, _≤_}
+use Prim.Native.Nat.{_-_, _≤_}
 use native.Mathlib.Omega.{arith}
 use borrow.Author.Needs.{needs}
 use lib.ListN.{length, drop}
@@ -10,11 +10,6 @@ use Rattle.pieces.specs.Progress.{after, made}
 use Rattle.pieces.proofs.Makes.{part-end}
 use Rattle.pieces.proofs.parts.take_part.Statement.{statement}
 use Rattle.pieces.proofs.parts.take_part.Tie as tie
-use Rattle.pieces.proofs.parts.take_part.Reads as reads
-use Rattle.pieces.proofs.parts.take_part.Lts as lts
-use Rattle.pieces.proofs.parts.take_some.Reads as take-some-reads
-use Rattle.registers.proofs.held.held_table.Reads as held-table-reads
-use Rattle.registers.proofs.held.slot_table.Reads as slot-table-reads
 
 abbrev Inv-loop : tie.InvT-loop
 Inv-loop cells₀ fog₀ light₀ part slots held q₀ at₀ cells fog light q at =
@@ -25,31 +20,25 @@ Inv-loop cells₀ fog₀ light₀ part slots held q₀ at₀ cells fog light q a
 abbrev μ-loop : tie.MeasureT-loop
 μ-loop cells₀ fog₀ light₀ part slots held q₀ at₀ cells fog light q at = length part - at
 
--- src/parts.rt:310:17
 slot-table-requires : tie.Need-slot-table-requires Inv-loop μ-loop
 slot-table-requires c κs = search needs
 
--- src/parts.rt:311:16
 held-table-requires : tie.Need-held-table-requires Inv-loop μ-loop
 held-table-requires c κs = search needs
 
--- src/parts.rt:314:5
 loop-holds : tie.Need-loop-holds Inv-loop μ-loop
 loop-holds c =
     (search needs, search needs, search needs, search needs, refl, refl)
 
--- src/parts.rt:315:13
 take-some-requires : tie.Need-take-some-requires Inv-loop μ-loop
 take-some-requires c κs = search needs
 
--- src/parts.rt:314:5
 loop-less : tie.Need-loop-less Inv-loop μ-loop
 loop-less c =
     let at-take-some = c .before .before .before .before .before .before .before in
     let e = at-take-some .take-some .ensures in
     omega (arith, e .0, e .1 .inside)
 
--- src/parts.rt:314:5
 loop-again : tie.Need-loop-again Inv-loop μ-loop
 loop-again c =
     let at-take-some = c .before .before .before .before .before .before .before in
@@ -65,19 +54,15 @@ loop-again c =
       e .state ∙ o .inv .5,
     )
 
--- src/parts.rt:296:1
 same-length : tie.Need-same-length Inv-loop μ-loop
 same-length c = search needs
 
--- src/parts.rt:296:1
 same-length-2 : tie.Need-same-length-2 Inv-loop μ-loop
 same-length-2 c = search needs
 
--- src/parts.rt:296:1
 same-length-3 : tie.Need-same-length-3 Inv-loop μ-loop
 same-length-3 c = search needs
 
--- src/parts.rt:296:1
 returns : tie.Need-returns Inv-loop μ-loop
 returns c =
     let at-loop = c .before in

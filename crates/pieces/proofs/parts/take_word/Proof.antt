@@ -1,57 +1,42 @@
 -- Each way out is one of the six cases of a word. Assumes nothing.
-use mathlib.Core.Path.{_≡_, sym, _∙_}
+use mathlib.Core.Path.{sym, _∙_}
 use Rattle.commands.proofs.Applying.{apply-none}
 use Rattle.pieces.proofs.Steps.{takes-past, takes-extra, takes-padding, takes-header, takes-first, takes-nothing}
 use borrow.Author.Needs.{needs}
 use Rattle.pieces.proofs.parts.take_word.Statement.{statement}
 use Rattle.pieces.proofs.parts.take_word.Tie as tie
-use Rattle.pieces.proofs.parts.take_word.Reads as reads
-use Rattle.pieces.proofs.parts.take_word.Lts as lts
-use Rattle.pieces.proofs.parts.first_fault.Reads as first-fault-reads
-use Rattle.pieces.proofs.parts.put_sound.Reads as put-sound-reads
-use Rattle.pieces.proofs.parts.take_header.Reads as take-header-reads
-use Rattle.std.proofs.num.wrapping_add_u32.Reads as wrapping-add-u32-reads
 
--- src/parts.rt:114:9
 returns : tie.Need-returns
 returns c =
     let at-start = c .before .before .before .before .before in
-    let t = takes-past (at-start .args .p) (at-start .args .x) (c .if1 .taken) in
+    let a = at-start .args in
+    let t = takes-past (a .p) (a .x) (c .if1 .taken) in
     (sym (t .progress), rw (t .writes) (sym (apply-none _)))
 
--- src/parts.rt:116:14
 add-q : tie.Need-add-q
 add-q c = search needs
 
--- src/parts.rt:118:13
 wrapping-add-u32-requires : tie.Need-wrapping-add-u32-requires
 wrapping-add-u32-requires c κs = search needs
 
--- src/parts.rt:119:13
 first-fault-requires : tie.Need-first-fault-requires
 first-fault-requires c κs = search needs
 
--- src/parts.rt:120:9
 put-sound-requires : tie.Need-put-sound-requires
 put-sound-requires c κs = search needs
 
--- src/parts.rt:122:18
 sub-q : tie.Need-sub-q
 sub-q c = search needs
 
--- src/parts.rt:124:9
 same-length : tie.Need-same-length
 same-length c = search needs
 
--- src/parts.rt:124:9
 same-length-2 : tie.Need-same-length-2
 same-length-2 c = search needs
 
--- src/parts.rt:124:9
 same-length-3 : tie.Need-same-length-3
 same-length-3 c = search needs
 
--- src/parts.rt:124:9
 returns-2 : tie.Need-returns-2
 returns-2 c =
     let at-put-sound = c .before .before .before .before .before .before .before in
@@ -60,42 +45,37 @@ returns-2 c =
     let at-if2 = at-wrapping-add-u32 .before in
     let at-if1 = at-if2 .before .before .before in
     let at-start = at-if1 .before .before .before .before .before in
-    let t = takes-extra (at-start .args .p) (at-start .args .x) (at-if1 .if1 .left) (at-if2 .if2 .taken) in
+    let a = at-start .args in
+    let t = takes-extra (a .p) (a .x) (at-if1 .if1 .left) (at-if2 .if2 .taken) in
     let i = at-wrapping-add-u32 .wrapping-add-u32 .ensures in
     let f = at-first-fault .first-fault .ensures in
     (rw (f, i) (sym (t .progress)), rw (t .writes, ← i, ← f) (at-put-sound .put-sound .ensures))
 
--- src/parts.rt:127:17
 sub-q-2 : tie.Need-sub-q-2
 sub-q-2 c = search needs
 
--- src/parts.rt:128:9
 returns-3 : tie.Need-returns-3
 returns-3 c =
     let at-if3 = c .before in
     let at-if2 = at-if3 .before .before in
     let at-if1 = at-if2 .before .before .before in
     let at-start = at-if1 .before .before .before .before .before in
-    let t = takes-padding (at-start .args .p) (at-start .args .x) (at-if1 .if1 .left) (at-if2 .if2 .left) (at-if3 .if3 .taken) in
+    let a = at-start .args in
+    let t = takes-padding (a .p) (a .x) (at-if1 .if1 .left) (at-if2 .if2 .left) (at-if3 .if3 .taken) in
     (sym (t .progress), rw (t .writes) (sym (apply-none _)))
 
--- src/parts.rt:131:9
 take-header-requires : tie.Need-take-header-requires
 take-header-requires c κs = search needs
 
--- src/parts.rt:131:9
 same-length-4 : tie.Need-same-length-4
 same-length-4 c = search needs
 
--- src/parts.rt:131:9
 same-length-5 : tie.Need-same-length-5
 same-length-5 c = search needs
 
--- src/parts.rt:131:9
 same-length-6 : tie.Need-same-length-6
 same-length-6 c = search needs
 
--- src/parts.rt:131:9
 returns-4 : tie.Need-returns-4
 returns-4 c =
     let at-take-header = c .before .before .before .before .before .before in
@@ -104,11 +84,11 @@ returns-4 c =
     let at-if2 = at-if3 .before .before in
     let at-if1 = at-if2 .before .before .before in
     let at-start = at-if1 .before .before .before .before .before in
-    let t = takes-header (at-start .args .p) (at-start .args .x) (at-if1 .if1 .left) (at-if2 .if2 .left) (at-if3 .if3 .left) (at-if4 .if4 .taken) in
+    let a = at-start .args in
+    let t = takes-header (a .p) (a .x) (at-if1 .if1 .left) (at-if2 .if2 .left) (at-if3 .if3 .left) (at-if4 .if4 .taken) in
     let h = at-take-header .take-header .ensures in
     (h .0 ∙ sym (t .progress), rw (t .writes) (h .1))
 
--- src/parts.rt:137:9
 returns-5 : tie.Need-returns-5
 returns-5 c =
     let at-if4 = c .before .before in
@@ -116,10 +96,10 @@ returns-5 c =
     let at-if2 = at-if3 .before .before in
     let at-if1 = at-if2 .before .before .before in
     let at-start = at-if1 .before .before .before .before .before in
-    let t = takes-first (at-start .args .p) (at-start .args .x) (at-if1 .if1 .left) (at-if2 .if2 .left) (at-if3 .if3 .left) (at-if4 .if4 .left) (c .if5 .taken) in
+    let a = at-start .args in
+    let t = takes-first (a .p) (a .x) (at-if1 .if1 .left) (at-if2 .if2 .left) (at-if3 .if3 .left) (at-if4 .if4 .left) (c .if5 .taken) in
     (sym (t .progress), rw (t .writes) (sym (apply-none _)))
 
--- src/parts.rt:95:1
 returns-6 : tie.Need-returns-6
 returns-6 c =
     let at-if4 = c .before .before in
@@ -127,7 +107,8 @@ returns-6 c =
     let at-if2 = at-if3 .before .before in
     let at-if1 = at-if2 .before .before .before in
     let at-start = at-if1 .before .before .before .before .before in
-    let t = takes-nothing (at-start .args .p) (at-start .args .x) (at-if1 .if1 .left) (at-if2 .if2 .left) (at-if3 .if3 .left) (at-if4 .if4 .left) (c .if5 .left) in
+    let a = at-start .args in
+    let t = takes-nothing (a .p) (a .x) (at-if1 .if1 .left) (at-if2 .if2 .left) (at-if3 .if3 .left) (at-if4 .if4 .left) (c .if5 .left) in
     (sym (t .progress), rw (t .writes) (sym (apply-none _)))
 
 pub take-word-spec : {M : Type 1} → statement M
