@@ -2,6 +2,8 @@ pub mod Unheld
 pub mod Alike
 pub mod Lengths
 pub mod NeverRead
+pub mod Taken
+pub mod Beside
 pub mod Reading
 pub mod Refusals
 pub mod RunRefusals
@@ -13,6 +15,8 @@ pub mod Seams
 pub mod Examples
 pub mod Drawing
 pub mod Calls
+pub mod Pieces
+pub mod EachCall
 pub mod EndToEnd
 pub mod Accepts
 pub mod Between

@@ -3,6 +3,7 @@
 mod commands;
 mod masks;
 mod packing;
+mod parts;
 mod ports;
 mod refusals;
 mod show;
@@ -13,4 +14,5 @@ fn main() {
     ports::all();
     refusals::all();
     packing::all();
+    parts::all();
 }

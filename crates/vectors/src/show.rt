@@ -1,6 +1,8 @@
 // How a vector is shown: its label with the answer's line, and then what some cells or entries hold after it was read into
 // a state of zeros.
 use libc::STDOUT_FILENO;
+use pieces::Going;
+use pieces::Progress;
 use reader::ListVerdict;
 use words::Refusal;
 
@@ -119,4 +121,62 @@ pub(crate) fn list_words(list: &[u32]) {
 
 fn wide(x: u32) -> u64 {
     x as u64
+}
+
+// What opening or feeding goes on from; a refusal is shown.
+fn gone_on(going: Going) -> Progress {
+    match going {
+        Going::Come(p) => p,
+        Going::Refused(why) => {
+            put_answer(b"  not fed", ListVerdict::Refused(why));
+            pieces::fresh_progress()
+        }
+    }
+}
+
+// Three parts fed to a reader over states of zeros: the answer at the close, how many words had come after each part, and the
+// live state's cells of these ids.
+pub(crate) fn in_parts(label: &[u8], first: &[u32], second: &[u32], third: &[u32], ids: &[u32]) {
+    let mut cells = [0u32; 768];
+    let mut fog = [0u32; 128];
+    let mut light = [0u32; 6144];
+    let mut spare_cells = [0u32; 768];
+    let mut spare_fog = [0u32; 128];
+    let mut spare_light = [0u32; 6144];
+    let opened = gone_on(pieces::open(
+        &cells,
+        &fog,
+        &light,
+        &mut spare_cells,
+        &mut spare_fog,
+        &mut spare_light,
+    ));
+    let p = gone_on(pieces::feed(
+        opened,
+        &mut spare_cells,
+        &mut spare_fog,
+        &mut spare_light,
+        first,
+    ));
+    let q = gone_on(pieces::feed(
+        p,
+        &mut spare_cells,
+        &mut spare_fog,
+        &mut spare_light,
+        second,
+    ));
+    let r = gone_on(pieces::feed(q, &mut spare_cells, &mut spare_fog, &mut spare_light, third));
+    let closed = pieces::close(
+        r,
+        &mut cells,
+        &mut fog,
+        &mut light,
+        &mut spare_cells,
+        &mut spare_fog,
+        &mut spare_light,
+    );
+    let verdict = closed.verdict;
+    put_answer(label, verdict);
+    put_words(b"come ", &[p.come, q.come, r.come], &[0, 1, 2]);
+    put_words(b"cell ", &cells, ids);
 }

@@ -1,0 +1,260 @@
+-- Request 1, lists that arrive in pieces, from the contracts of open, feed and close. Assumes nothing; of a state it is asked, where said,
+-- that its cells are 32-bit words, as those of a lent buffer are: in a list of numbers larger ones could stand.
+use mathlib.Core.Path.{_≡_, refl, sym, _∙_}
+use mathlib.Core.Bool.{Bool, true, false}
+use mathlib.Core.List.{List, [], _∷_, _++_}
+use Prim.Native.Nat.{ℕ, _+_, _≤_, _<_}
+use native.Mathlib.Decide.{decLt}
+use native.Mathlib.Omega.{arith}
+use lib.ListN.{length}
+use borrow.Author.Tests.{le-leb, lt-leb, lt-ltb, le-ltb}
+use Rattle.numbers.specs.Answer.{Answer, answered, refused}
+use Rattle.numbers.proofs.Tests.{and-true}
+use Rattle.words.specs.Commands.{expansion}
+use Rattle.registers.specs.State.{State, sized}
+use Rattle.registers.specs.Applied.{applyAll}
+use Rattle.copies.specs.Copy.{taken}
+use Rattle.commands.proofs.Applying.{apply-none, apply-append}
+use Rattle.reader.specs.ListVerdict.{verdict}
+use Rattle.reader.specs.Read.{told as read-told, readAnswer, readState}
+use Rattle.reader.specs.declared.ListVerdict.{ListVerdict}
+use Rattle.reader.proofs.Once.{told-one}
+use Rattle.pieces.specs.Progress.{fresh, after, made, heldAt, counted, closing}
+use Rattle.pieces.specs.Pieces.{wrongLength, bothSized, opening, openedSpare, feeding}
+use Rattle.pieces.specs.Pieces.{fedSpare, closeAnswer, closeProgress, closedLive, closedSpare}
+use Rattle.pieces.specs.declared.Progress.{Progress}
+use Rattle.pieces.specs.declared.Going.the-variants.{Come}
+use Rattle.pieces.specs.declared.Closed.{Closed}
+use Rattle.pieces.proofs.Steps.{after-none, after-append, made-none, made-append}
+use Rattle.pieces.proofs.Closing.{closes-long, whole-list}
+use Rattle.pieces.proofs.Counts.{come-held, counted-same}
+use Rattle.pieces.proofs.Calls.{open-wrong, open-right, feed-wrong, feed-right, close-refused, close-accepted}
+use Rattle.demands.proofs.Alike.{Alike}
+use Rattle.demands.proofs.NeverRead.{never-read}
+use Rattle.demands.proofs.Taken.{sized-kept, Words, run-words, taken-alike, taken-sized, taken-words, taken-done}
+use Rattle.demands.proofs.Beside.{beside-run, taken-same}
+use Rattle.demands.proofs.Calls.{ReadCall, read-call, OpenCall, open-call, FeedCall, feed-call, CloseCall, close-call}
+
+-- THE LIST THAT PARTS ARE CUT FROM, at any places, parts of zero words among them
+unfoldable pub joined : List (List ℕ) → List ℕ
+joined [] = []
+joined (l ∷ ls) = l ++ joined ls
+
+-- a part fed by one call, with what follows
+pub record Fed (p : Progress) (s : State) (part : List ℕ) (rest : Progress → State → Type 0) : Type 0 where
+  pub progress : Progress
+  pub spare : State
+  pub call : FeedCall p s part (Come progress) spare
+  pub on : rest progress spare
+
+-- PARTS FED, one call after another, with nobody else writing to the spare state: from the progress p and the state s to q and t
+abbrev pub Feeds : Progress → State → List (List ℕ) → Progress → State → Type 0
+Feeds p s [] q t = (q ≡ p) × (t ≡ s)
+Feeds p s (l ∷ ls) q t = Fed p s l (λ r u. Feeds r u ls q t)
+
+-- the spare state is in step with the live one, and no word has come
+pub record Opened (live : State) (p : Progress) (s : State) : Type 0 where
+  pub progress : p ≡ fresh
+  pub live-sized : sized live ≡ true
+  pub spare-sized : sized s ≡ true
+  pub alike : Alike s live
+
+pub both-sized : (live spare : State) → bothSized live spare ≡ true → (sized live ≡ true) × (sized spare ≡ true)
+both-sized live spare e = and-true (sized live) (sized spare) e
+
+-- an answer is no refusal
+come-no-refusal : {A : Type 0} (p : Progress) → Come p ≡ wrongLength → A
+come-no-refusal p e = let z : _≡_ {A = ℕ} 0 1 = cc in absurd (omega arith)
+
+come-one : (p q : Progress) → Come p ≡ Come q → p ≡ q
+come-one p q e = cc
+
+-- "opening gives its held bits and entries the live one's values"
+pub open-opens : {live spare s : State} {p : Progress} → OpenCall live spare (Come p) s → Opened live p s
+open-opens {live} {spare} {s} {p} c = go (bothSized live spare) refl (open-call c)
+  where
+    go : (b : Bool) → bothSized live spare ≡ b → (Come p ≡ opening live spare) × (s ≡ openedSpare live spare) → Opened live p s
+    go true e k =
+        let r = open-right live spare e in
+        let d = both-sized live spare e in
+        rw (k .1 ∙ sym (r .1))
+        (record {
+          progress = come-one p fresh (k .0 ∙ sym (r .0));
+          live-sized = d .0;
+          spare-sized = taken-sized spare live (d .1) (d .0);
+          alike = taken-alike spare live (d .1) (d .0);
+        })
+    go false e k = come-no-refusal p (k .0 ∙ sym (open-wrong live spare e .0))
+
+-- FEEDING, of which the answer is no refusal
+pub fed-call : {p q : Progress} {s t : State} {l : List ℕ} → FeedCall p s l (Come q) t
+    → (sized s ≡ true) × (q ≡ counted (after p l)) × (t ≡ applyAll s (made p l))
+fed-call {p} {q} {s} {t} {l} c = go (sized s) refl (feed-call c)
+  where
+    go : (b : Bool) → sized s ≡ b → (Come q ≡ feeding p s l) × (t ≡ fedSpare p s l)
+        → (sized s ≡ true) × (q ≡ counted (after p l)) × (t ≡ applyAll s (made p l))
+    go true e k =
+        let r = feed-right p s l e in (e, come-one q (counted (after p l)) (k .0 ∙ sym (r .0)), k .1 ∙ sym (r .1))
+    go false e k = come-no-refusal q (k .0 ∙ sym (feed-wrong p s l e .0))
+
+held-twice : (n : ℕ) → Dec (65536 < n) → heldAt n ≡ heldAt (heldAt n)
+held-twice n (yes h) = rw (lt-ltb 65536 n h)
+held-twice n (no h) = let t = le-ltb 65536 n (omega arith) in rw (t, t)
+
+held-after : (p : Progress) (l : List ℕ) → p .come ≡ heldAt (p .come) → after p l .come ≡ heldAt (after p l .come)
+held-after p l h = rw (come-held p l h) (held-twice (p .come + length l) (decLt 65536 (p .come + length l)))
+
+-- parts are fed as the joined list would be at once: what the spare state holds in between doesn't go by the cutting either
+pub feeds-joined : (ls : List (List ℕ)) (p q : Progress) (s t : State) → Feeds p s ls q t → p .come ≡ heldAt (p .come)
+    → (q ≡ after p (joined ls)) × (t ≡ applyAll s (made p (joined ls)))
+unfolding joined
+feeds-joined [] p q s t f h = (f .0 ∙ sym (after-none p), f .1 ∙ sym (rw (made-none p) (apply-none s)))
+feeds-joined (l ∷ ls) p q s t f h =
+    let c = fed-call (f .call) in
+    let e : f .progress ≡ after p l = c .1 ∙ counted-same (after p l) (held-after p l h) in
+    let r = feeds-joined ls (f .progress) q (f .spare) t (f .on) (rw e (held-after p l h)) in (
+      r .0 ∙ rw e (sym (after-append p l (joined ls))),
+      r .1 ∙ rw (c .2, e, made-append p l (joined ls)) (sym (apply-append s (made p l) (made (after p l) (joined ls)))),
+    )
+
+alike-back : {s t : State} → Alike s t → Alike t s
+alike-back a =
+    record {
+      cells = λ j. sym (a .cells j);
+      fog = λ j. sym (a .fog j);
+      light = λ j. sym (a .light j);
+      cellsLong = sym (a .cellsLong);
+      fogLong = sym (a .fogLong);
+      lightLong = sym (a .lightLong);
+    }
+
+-- where both have their lengths, a close answers by the words alone
+pub right-answer : (live spare : State) (p : Progress) → bothSized live spare ≡ true → closeAnswer p live spare ≡ closing p
+unfolding closeAnswer
+right-answer live spare p e = rw e
+
+-- "Feeding answers only how many words have come, held at 65,537": `told` of its answer is this number alone
+pub words-come : {live s : State} {p : Progress} (ls : List (List ℕ)) (q : Progress) (t : State) → Opened live p s → Feeds p s ls q t
+    → q .come ≡ heldAt (length (joined ls))
+words-come {live} {s} {p} ls q t o f =
+    let e = o .progress in
+    let r = feeds-joined ls p q s t f (rw e) in
+    let n : 0 + length (joined ls) ≡ length (joined ls) = omega arith in
+    rw (r .0, e) (come-held fresh (joined ls) refl ∙ rw n)
+
+-- "If nobody else writes to either state from opening to close, then for every cutting the verdict, the place counted from the list's start
+-- and the live state are those of reading the joined list at once. The 65,536 limit is on the joined length."; and the reader is then as
+-- freshly opened, so that the next list may come without another opening
+pub record InPieces (live : State) (l : List ℕ) (c : Closed) (live′ spare′ : State) : Type 0 where
+  pub answer : read-told (c .verdict) ≡ readAnswer live l
+  pub state : Words live → live′ ≡ readState live l
+  pub opened : Opened live′ (c .progress) spare′
+  pub words : Words live → Words live′
+
+module _ (live s : State) (l : List ℕ) (a : sized live ≡ true) (b : sized s ≡ true) (k : Alike s live) where
+  abbrev fed : State
+  fed = applyAll s (made fresh l)
+
+  fed-sized : sized fed ≡ true
+  fed-sized = sized-kept s (made fresh l) ∙ b
+
+  fed-both : bothSized live fed ≡ true
+  fed-both = rw (a, fed-sized)
+
+  abbrev Closes : Closed → State → State → Type 0
+  Closes c live′ spare′ =
+      (read-told (c .verdict) ≡ closeAnswer (after fresh l) live fed) × (c .progress ≡ closeProgress (after fresh l) live fed)
+      × (live′ ≡ closedLive (after fresh l) live fed) × (spare′ ≡ closedSpare (after fresh l) live fed)
+
+  -- for a verdict v at the close, of which the writes made are the expansion where it accepts
+  by-verdict : (v : Answer) → closing (after fresh l) ≡ v → readAnswer live l ≡ v → ((m : ℕ) → v ≡ answered m → made fresh l ≡ expansion l)
+      → (c : Closed) (live′ spare′ : State) → Closes c live′ spare′ → InPieces live l c live′ spare′
+  unfolding readState
+  by-verdict (answered m) e r x c live′ spare′ h =
+      let g = close-accepted live fed (after fresh l) m fed-both (sym e) in
+      let n = never-read s live k (made fresh l) in
+      let i : live′ ≡ taken live fed = h .2 ∙ sym (g .2) in
+      record {
+        answer = h .0 ∙ sym (g .0) ∙ sym r;
+        state = λ w. rw (r, ← (x m refl)) (i ∙ taken-done live fed (made fresh l) a fed-sized w n);
+        opened =
+            rw (i, h .3 ∙ sym (g .3))
+            (record {
+              progress = h .1 ∙ sym (g .1);
+              live-sized = taken-sized live fed a fed-sized;
+              spare-sized = fed-sized;
+              alike = alike-back (taken-alike live fed a fed-sized);
+            });
+        words = λ w. rw i (taken-words live fed a w);
+      }
+  by-verdict (refused n q) e r x c live′ spare′ h =
+      let g = close-refused live fed (after fresh l) n q fed-both (sym e) in
+      let i : live′ ≡ live = h .2 ∙ sym (g .2) in
+      record {
+        answer = h .0 ∙ sym (g .0) ∙ sym r;
+        state = λ w. rw r i;
+        opened =
+            rw (i, h .3 ∙ sym (g .3))
+            (record {
+              progress = h .1 ∙ sym (g .1);
+              live-sized = a;
+              spare-sized = taken-sized fed live fed-sized a;
+              alike = taken-alike fed live fed-sized a;
+            });
+        words = λ w. rw i w;
+      }
+
+  short-answer : length l ≤ 65536 → readAnswer live l ≡ verdict l
+  unfolding readAnswer
+  short-answer h = rw (a, le-leb (length l) 65536 h)
+
+  long-answer : 65536 < length l → readAnswer live l ≡ refused 1 0
+  unfolding readAnswer
+  long-answer h = rw (a, lt-leb (length l) 65536 h)
+
+  by-length : Dec (65536 < length l) → (c : Closed) (live′ spare′ : State) → Closes c live′ spare′ → InPieces live l c live′ spare′
+  by-length (yes h) =
+      let n : 0 + length l ≡ length l = omega arith in
+      let e : after fresh l .come ≡ 65537 = come-held fresh l refl ∙ rw (n, lt-ltb 65536 (length l) h) in
+      by-verdict (refused 1 0) (closes-long (after fresh l) (omega (arith, e))) (long-answer h)
+      (λ m z. absurd (let y : _≡_ {A = ℕ} 0 1 = cc in omega arith))
+  by-length (no h) =
+      let r = whole-list l (omega arith) in
+      by-verdict (verdict l) (r .answer) (short-answer (omega arith)) (r .writes)
+
+module _ {live s t live′ spare′ : State} {p q : Progress} {c : Closed} (ls : List (List ℕ)) (o : Opened live p s)
+    (f : Feeds p s ls q t) (k : CloseCall q live t c live′ spare′) where
+  closes : Closes live s (joined ls) (o .live-sized) (o .spare-sized) (o .alike) c live′ spare′
+  closes =
+      let e = feeds-joined ls p q s t f (rw (o .progress)) in
+      let x = close-call k in
+      rw (e .0, e .1, o .progress) at x
+
+  pub in-pieces : InPieces live (joined ls) c live′ spare′
+  in-pieces =
+      by-length live s (joined ls) (o .live-sized) (o .spare-sized) (o .alike) (decLt 65536 (length (joined ls))) c live′ spare′ closes
+
+  -- against a call of `read` on the live state and the joined list
+  pub as-read : {r : ListVerdict} {u : State} → Words live → ReadCall live (joined ls) r u → (c .verdict ≡ r) × (live′ ≡ u)
+  as-read {r} {u} w x =
+      let y = read-call x in
+      (told-one (c .verdict) r (in-pieces .answer ∙ sym (y .0)), in-pieces .state w ∙ sym (y .1))
+
+  -- "on any other refusal the spare those of the live .., and the reader is as freshly opened": both states and the reader are, word for
+  -- word, those after opening
+  pub refused-as-opened : (n x : ℕ) → Words s → read-told (c .verdict) ≡ refused n x → (live′ ≡ live) × (spare′ ≡ s) × (c .progress ≡ p)
+  unfolding readState
+  refused-as-opened n x v e =
+      let i = in-pieces in
+      let d = closes in
+      let ws = made fresh (joined ls) in
+      let b = o .spare-sized in
+      let h = fed-both live s (joined ls) (o .live-sized) b (o .alike) in
+      let z : closeAnswer (after fresh (joined ls)) live (applyAll s ws) ≡ refused n x = sym (d .0) ∙ e in
+      let y : refused n x ≡ closing (after fresh (joined ls)) = sym z ∙ right-answer live (applyAll s ws) (after fresh (joined ls)) h in
+      let g = close-refused live (applyAll s ws) (after fresh (joined ls)) n x h y in
+      let kept : taken (applyAll s ws) live ≡ taken s live =
+      taken-same (applyAll s ws) s live (sized-kept s ws ∙ b) b (run-words s ws v) v (beside-run s ws) in
+      let back : taken s live ≡ s =
+      taken-done s live [] b (o .live-sized) v (rw (apply-none s) (alike-back (o .alike))) ∙ apply-none s in
+      (d .2 ∙ sym (g .2), d .3 ∙ sym (g .3) ∙ kept ∙ back, i .opened .progress ∙ sym (o .progress))
