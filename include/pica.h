@@ -20,8 +20,8 @@
  *   - a pointer is aligned for uint32_t, and its length's words are there. For a length of 0 any pointer will do, null too, as an
  *     empty std::vector may give it; the buffers whose length is fixed, reader, fields, given and stored, are never null;
  *   - a buffer that a call writes to overlaps no other that it is lent.
- * Everything else is answered or refused, whatever the words are. A refused call changes no buffer, but for pica_close, which
- * then makes the reader and the spare state ready for the next list.
+ * Everything else is answered or refused, whatever the words are. A refused call changes no buffer; only pica_close, where it
+ * refuses a list, makes the reader and the spare state ready for the next one.
  *
  * A STATE is three buffers: 768 register cells (the cell of register i is cells[i]), 128 fog entries, and 6,144 light entries
  * (entry k of table t is light[256 * t + k]). Of a cell only the bits that the register holds count, of an entry only the low 24;
@@ -163,7 +163,7 @@ uint64_t pica_open(const uint32_t *cells, size_t cells_length, const uint32_t *f
 /*
  * Feeds the next part of the list, of any length, 0 too.
  *
- * Answers how many words have come since the opening. Past 65,536, where the close will refuse 1, it stays at 65,537.
+ * Answers how many words of the list have come. Past 65,536, where the close will refuse 1, it stays at 65,537.
  * Refuses 6 at 0, and counts no word: the part can be fed again. What is wrong with the list is told by the close alone.
  * spare_cells, spare_fog, spare_light: changed as the part's writes say, up to the list's first one at fault; on a refusal as they
  * were.

@@ -43,3 +43,23 @@ uint64_t pica_fragment(const uint32_t *cells, size_t n, const uint32_t *fog, siz
     STATE_UNUSED, UNUSED(given), UNUSED(stored);
     return 0;
 }
+
+#define SPARE_UNUSED UNUSED(spare_cells), UNUSED(sn), UNUSED(spare_fog), UNUSED(sm), UNUSED(spare_light), UNUSED(sk), UNUSED(reader)
+
+uint64_t pica_open(const uint32_t *cells, size_t n, const uint32_t *fog, size_t m, const uint32_t *light, size_t k, uint32_t *spare_cells,
+                   size_t sn, uint32_t *spare_fog, size_t sm, uint32_t *spare_light, size_t sk, uint32_t reader[PICA_READER]) {
+    STATE_UNUSED, SPARE_UNUSED;
+    return 0;
+}
+
+uint64_t pica_feed(uint32_t *cells, size_t n, uint32_t *fog, size_t m, uint32_t *light, size_t k, uint32_t reader[PICA_READER],
+                   const uint32_t *part, size_t length) {
+    STATE_UNUSED, UNUSED(reader), UNUSED(part), UNUSED(length);
+    return 0;
+}
+
+uint64_t pica_close(uint32_t *cells, size_t n, uint32_t *fog, size_t m, uint32_t *light, size_t k, uint32_t *spare_cells, size_t sn,
+                    uint32_t *spare_fog, size_t sm, uint32_t *spare_light, size_t sk, uint32_t reader[PICA_READER]) {
+    STATE_UNUSED, SPARE_UNUSED;
+    return 0;
+}

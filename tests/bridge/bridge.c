@@ -114,3 +114,20 @@ uint64_t pica_fragment(const uint32_t *cells, size_t n, const uint32_t *fog, siz
     struct buffer lent[LENT] = {STATE(0), {(uint32_t *)given, PICA_GIVEN_LENGTH, 0}, {stored, PICA_STORED_LENGTH, 1}};
     return call(FRAGMENT, lent, NULL);
 }
+
+#define SPARE {spare_cells, sn, 1}, {spare_fog, sm, 1}, {spare_light, sk, 1}
+
+uint64_t pica_open(const uint32_t *cells, size_t n, const uint32_t *fog, size_t m, const uint32_t *light, size_t k, uint32_t *spare_cells,
+                   size_t sn, uint32_t *spare_fog, size_t sm, uint32_t *spare_light, size_t sk, uint32_t reader[PICA_READER]) {
+    return call(OPEN, (struct buffer[LENT]){STATE(0), SPARE, {reader, PICA_READER, 1}}, NULL);
+}
+
+uint64_t pica_feed(uint32_t *cells, size_t n, uint32_t *fog, size_t m, uint32_t *light, size_t k, uint32_t reader[PICA_READER],
+                   const uint32_t *part, size_t length) {
+    return call(FEED, (struct buffer[LENT]){STATE(1), {reader, PICA_READER, 1}, {(uint32_t *)part, length, 0}}, NULL);
+}
+
+uint64_t pica_close(uint32_t *cells, size_t n, uint32_t *fog, size_t m, uint32_t *light, size_t k, uint32_t *spare_cells, size_t sn,
+                    uint32_t *spare_fog, size_t sm, uint32_t *spare_light, size_t sk, uint32_t reader[PICA_READER]) {
+    return call(CLOSE, (struct buffer[LENT]){STATE(1), SPARE, {reader, PICA_READER, 1}}, NULL);
+}

@@ -35,6 +35,7 @@ void *memcpy(void *restrict to, const void *restrict from, size_t n) {
 
 /* Three buffers, of a state or of a run; for the writes of a list the list and two of them. */
 #define STATE w[0], l[0].length, w[1], l[1].length, w[2], l[2].length
+#define SPARE w[3], l[3].length, w[4], l[4].length, w[5], l[5].length
 
 static uint64_t answer(struct call *c) {
     const struct lent *l = c->lent;
@@ -47,7 +48,10 @@ static uint64_t answer(struct call *c) {
     case WRITES: return pica_writes(STATE, w[3], l[3].length);
     case PACK: return pica_pack(STATE, w[3], l[3].length);
     case DECODE: return pica_decode(STATE, w[3]);
-    default: return pica_fragment(STATE, w[3], w[4]);
+    case FRAGMENT: return pica_fragment(STATE, w[3], w[4]);
+    case OPEN: return pica_open(STATE, SPARE, w[6]);
+    case FEED: return pica_feed(STATE, w[3], w[4], l[4].length);
+    default: return pica_close(STATE, SPARE, w[6]);
     }
 }
 

@@ -7,8 +7,8 @@
 
 #include <stdint.h>
 
-enum { LENT = 5, NUMBERS = 3, ROOM = 1 << 20 };
-enum which { READ, WRITE, WRITES, PACK, DECODE, FRAGMENT };
+enum { LENT = 7, NUMBERS = 3, ROOM = 1 << 20 };
+enum which { READ, WRITE, WRITES, PACK, DECODE, FRAGMENT, OPEN, FEED, CLOSE };
 
 struct lent {
     uint64_t at, length;

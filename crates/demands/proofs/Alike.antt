@@ -58,7 +58,7 @@ row-small (r ∷ rs) j t =
     let u = and-true (ltb (r .bits) 0x100000000) (small rs) t in
     pick-either (λ n. n < 0x100000000) (eqb (r .id) j) (ltb-true (r .bits) 0x100000000 (u .0)) (row-small rs j (u .1))
 
-held-small : (j : ℕ) → bitsOf j < 0x100000000
+pub held-small : (j : ℕ) → bitsOf j < 0x100000000
 unfolding bitsOf small held
 held-small j = row-small held j refl
 

@@ -19,6 +19,16 @@ use Rattle.reader.specs.Read.{told as read-told, readAnswer, readState}
 use Rattle.reader.specs.declared.ListVerdict.{ListVerdict}
 use Rattle.reader.proofs.read.Reads as read
 use Rattle.reader.proofs.read.Kinds as read-kinds
+use Rattle.pieces.specs.Pieces.{opening, openedSpare, feeding, fedSpare, closeAnswer, closeProgress, closedLive, closedSpare}
+use Rattle.pieces.specs.declared.Progress.{Progress}
+use Rattle.pieces.specs.declared.Going.{Going}
+use Rattle.pieces.specs.declared.Closed.{Closed}
+use Rattle.pieces.proofs.open.Reads as opens
+use Rattle.pieces.proofs.open.Kinds as opens-kinds
+use Rattle.pieces.proofs.feed.Reads as feed
+use Rattle.pieces.proofs.feed.Kinds as feed-kinds
+use Rattle.pieces.proofs.close.Reads as close
+use Rattle.pieces.proofs.close.Kinds as close-kinds
 use Rattle.writes.specs.Listed.{writesAnswer, writesIds, writesMasks, writesValues}
 use Rattle.writes.proofs.writes_of.Reads as writes
 use Rattle.writes.proofs.writes_of.Kinds as writes-kinds
@@ -56,6 +66,39 @@ pub record ReadCall (s : State) (l : List ℕ) (answer : ListVerdict) (t : State
   pub state : st (now (lent .0)) (now (lent .1 .0)) (now (lent .1 .1 .0)) ≡ s
   pub list : now (lent .1 .1 .1 .0) ≡ l
   pub after : st (now (left .0)) (now (left .1 .0)) (now (left .1 .1 .0)) ≡ t
+
+-- `pieces::open`, lent the live state s, which it only reads, and the spare state t
+pub record OpenCall (s t : State) (answer : Going) (t′ : State) : Type 0 where
+  pub lifetimes : Lfts 6
+  pub lent : Dens lifetimes opens-kinds.ps
+  pub left : AtExit (endedOf 6 opens-kinds.ps opens-kinds.r) lifetimes
+  pub promise : opens.Post lifetimes lent answer left
+  pub live : st (now (lent .0)) (now (lent .1 .0)) (now (lent .1 .1 .0)) ≡ s
+  pub spare : st (now (lent .1 .1 .1 .0)) (now (lent .1 .1 .1 .1 .0)) (now (lent .1 .1 .1 .1 .1 .0)) ≡ t
+  pub after : st (now (left .1 .1 .1 .0)) (now (left .1 .1 .1 .1 .0)) (now (left .1 .1 .1 .1 .1 .0)) ≡ t′
+
+-- `pieces::feed`, for the progress p, lent the spare state s and a part
+pub record FeedCall (p : Progress) (s : State) (part : List ℕ) (answer : Going) (t : State) : Type 0 where
+  pub lifetimes : Lfts 4
+  pub lent : Dens lifetimes feed-kinds.ps
+  pub left : AtExit (endedOf 4 feed-kinds.ps feed-kinds.r) lifetimes
+  pub promise : feed.Post lifetimes lent answer left
+  pub progress : lent .0 ≡ p
+  pub state : st (now (lent .1 .0)) (now (lent .1 .1 .0)) (now (lent .1 .1 .1 .0)) ≡ s
+  pub list : now (lent .1 .1 .1 .1 .0) ≡ part
+  pub after : st (now (left .1 .0)) (now (left .1 .1 .0)) (now (left .1 .1 .1 .0)) ≡ t
+
+-- `pieces::close`, for the progress p, lent the live state s and the spare state t
+pub record CloseCall (p : Progress) (s t : State) (answer : Closed) (s′ t′ : State) : Type 0 where
+  pub lifetimes : Lfts 6
+  pub lent : Dens lifetimes close-kinds.ps
+  pub left : AtExit (endedOf 6 close-kinds.ps close-kinds.r) lifetimes
+  pub promise : close.Post lifetimes lent answer left
+  pub progress : lent .0 ≡ p
+  pub live : st (now (lent .1 .0)) (now (lent .1 .1 .0)) (now (lent .1 .1 .1 .0)) ≡ s
+  pub spare : st (now (lent .1 .1 .1 .1 .0)) (now (lent .1 .1 .1 .1 .1 .0)) (now (lent .1 .1 .1 .1 .1 .1 .0)) ≡ t
+  pub live-after : st (now (left .1 .0)) (now (left .1 .1 .0)) (now (left .1 .1 .1 .0)) ≡ s′
+  pub spare-after : st (now (left .1 .1 .1 .1 .0)) (now (left .1 .1 .1 .1 .1 .0)) (now (left .1 .1 .1 .1 .1 .1 .0)) ≡ t′
 
 -- `writes::writes_of`, lent the list l, which it only reads, and ids, masks and values
 pub record WritesCall (l is ms vs : List ℕ) (answer : ListVerdict) (is′ ms′ vs′ : List ℕ) : Type 0 where
@@ -109,6 +152,19 @@ write-call c = rw (← c .state, ← c .given, ← c .after) (c .promise)
 
 pub read-call : {s t : State} {l : List ℕ} {a : ListVerdict} → ReadCall s l a t → (read-told a ≡ readAnswer s l) × (t ≡ readState s l)
 read-call c = rw (← c .state, ← c .list, ← c .after) (c .promise)
+
+pub open-call : {live spare t : State} {a : Going} → OpenCall live spare a t → (a ≡ opening live spare) × (t ≡ openedSpare live spare)
+open-call c = rw (← c .live, ← c .spare, ← c .after) (c .promise)
+
+pub feed-call : {p : Progress} {s t : State} {l : List ℕ} {a : Going} → FeedCall p s l a t → (a ≡ feeding p s l) × (t ≡ fedSpare p s l)
+feed-call c = rw (← c .progress, ← c .state, ← c .list, ← c .after) (c .promise)
+
+pub close-call : {p : Progress} {live spare live′ spare′ : State} {a : Closed} → CloseCall p live spare a live′ spare′
+    → (read-told (a .verdict) ≡ closeAnswer p live spare) × (a .progress ≡ closeProgress p live spare)
+    × (live′ ≡ closedLive p live spare) × (spare′ ≡ closedSpare p live spare)
+close-call c =
+    let q = rw (c .progress, c .live, c .spare, c .live-after, c .spare-after) at (c .promise) in
+    (q .0, q .1 .0, q .1 .1 .0, q .1 .1 .1)
 
 pub writes-call : {l is ms vs is′ ms′ vs′ : List ℕ} {a : ListVerdict} → WritesCall l is ms vs a is′ ms′ vs′
     → (read-told a ≡ writesAnswer l is ms vs) × (is′ ≡ writesIds l is ms vs) × (ms′ ≡ writesMasks l is ms vs)

@@ -1,11 +1,12 @@
 -- What a C caller takes out of a call's one number, `pica_number` and `pica_value`, is the answer of the function below it, whole: so the
 -- rows of the table hold of the C functions too. Assumes nothing.
 use mathlib.Core.Path.{_≡_, refl, sym, ap, _∙_}
+use mathlib.Core.Bool.{Bool, true, false}
 use mathlib.Core.List.{List, [], _∷_}
 use mathlib.Core.Logic.{inl, inr, ⊎-elim}
-use Prim.Native.Nat.{ℕ, _/_, _%_, _≤_}
+use Prim.Native.Nat.{ℕ, _/_, _%_, _≤_, _<_}
 use native.Mathlib.Omega.{arith}
-use lib.Dec.{eqb}
+use lib.Dec.{eqb, ltb}
 use lib.ListN.{getD}
 use borrow.Author.Tests.{eq-eqb, ne-eqb}
 use Rattle.numbers.specs.Pick.{pick}
@@ -13,9 +14,14 @@ use Rattle.numbers.specs.Answer.{Answer, answered, refused}
 use Rattle.numbers.proofs.Answers.{told-apart, number-one}
 use Rattle.words.specs.Writes.{Write}
 use Rattle.words.specs.declared.Refusal.{Refusal}
-use Rattle.registers.specs.State.{State}
+use Rattle.registers.specs.State.{State, sized}
 use Rattle.registers.specs.Single.{writeAnswer}
 use Rattle.reader.specs.Read.{readAnswer}
+use Rattle.pieces.specs.Progress.{fresh, after, counted, between, faultNumber, closing}
+use Rattle.pieces.specs.Pieces.{wrongLength, bothSized, opening, feeding, closeAnswer}
+use Rattle.pieces.specs.Pieces as pieces
+use Rattle.pieces.specs.declared.Progress.{Progress}
+use Rattle.pieces.specs.declared.Going.the-variants.{Come}
 use Rattle.writes.specs.Listed.{writesAnswer}
 use Rattle.packer.specs.Packing.{packAnswer}
 use Rattle.decode.specs.Decoded.{decodedOf}
@@ -25,7 +31,8 @@ use Rattle.stores.specs.Tests.{verdictNumber}
 use Rattle.fragment.specs.declared.Drawn.{Drawn}
 use Rattle.fragment.specs.declared.Drawn.the-variants as drawn
 use Rattle.pica.specs.Calls.{call, answer, decodeCall, givenOf, storedOf, fragmentOf, fragmentCall}
-use Rattle.pica.proofs.Uncut.{valueIn, read-uncut, write-uncut, writes-uncut, pack-uncut, placeOf, decode-uncut, drawnValue, fragment-uncut}
+use Rattle.pica.proofs.Uncut.{valueIn, read-uncut, feed-uncut, close-uncut, write-uncut, writes-uncut, pack-uncut}
+use Rattle.pica.proofs.Uncut.{placeOf, decode-uncut, drawnValue, fragment-uncut}
 use Rattle.demands.specs.Refusals.{In, CommandRefused, ReadRefused, WriteRefused, WritesRefused, PackRefused}
 use Rattle.demands.specs.FragmentRefusals.{DecodeRefused, DrawRefused}
 use Rattle.demands.proofs.Refusals.{fault-numbered, read-row, write-row}
@@ -44,7 +51,7 @@ asTaken r =
 abbrev Numbered : Answer → Type 0
 Numbered a = (n p : ℕ) → a ≡ refused n p → n ≡ 0 → ⊥
 
-taken : (a : Answer) → valueIn a ≤ 65536 → Numbered a → asTaken (answer a) ≡ a
+taken : (a : Answer) → valueIn a < 0x100000000 → Numbered a → asTaken (answer a) ≡ a
 taken (answered n) h z =
     let d : call 0 n / 0x100000000 ≡ 0 = omega arith in
     let m : call 0 n % 0x100000000 ≡ n = omega arith in
@@ -85,18 +92,67 @@ writes-numbered l is ms vs n p (inr (inr (inr r))) z = omega (arith, r .0)
 
 -- WHAT IS TAKEN OUT of the numbers that the promises of `pica_read`, `pica_write`, `pica_writes` and `pica_pack` give
 pub read-taken : (s : State) (l : List ℕ) → asTaken (answer (readAnswer s l)) ≡ readAnswer s l
-read-taken s l = taken (readAnswer s l) (read-uncut s l) (λ n p e. read-numbered s l n p (read-row s l n p e))
+read-taken s l = taken (readAnswer s l) (omega (arith, read-uncut s l)) (λ n p e. read-numbered s l n p (read-row s l n p e))
 
 pub write-taken : (s : State) (w : Write) → asTaken (answer (writeAnswer s w)) ≡ writeAnswer s w
-write-taken s w = taken (writeAnswer s w) (write-uncut s w) (λ n p e. write-numbered s w n p (write-row s w n p e))
+write-taken s w = taken (writeAnswer s w) (omega (arith, write-uncut s w)) (λ n p e. write-numbered s w n p (write-row s w n p e))
 
 pub writes-taken : (l is ms vs : List ℕ) → asTaken (answer (writesAnswer l is ms vs)) ≡ writesAnswer l is ms vs
 writes-taken l is ms vs =
-    taken (writesAnswer l is ms vs) (writes-uncut l is ms vs) (λ n p e. writes-numbered l is ms vs n p (writes-row l is ms vs n p e))
+    taken (writesAnswer l is ms vs) (omega (arith, writes-uncut l is ms vs))
+    (λ n p e. writes-numbered l is ms vs n p (writes-row l is ms vs n p e))
 
 pub pack-taken : (is ms vs : List ℕ) (room : ℕ) → asTaken (answer (packAnswer is ms vs room)) ≡ packAnswer is ms vs room
 pack-taken is ms vs room =
-    taken (packAnswer is ms vs room) (pack-uncut is ms vs room) (λ n p e. pack-numbered is ms vs room n p (pack-row is ms vs room n p e))
+    taken (packAnswer is ms vs room) (omega (arith, pack-uncut is ms vs room))
+    (λ n p e. pack-numbered is ms vs room n p (pack-row is ms vs room n p e))
+
+-- of those that the promises of `pica_open`, `pica_feed` and `pica_close` give; the reader's words are of 32 bits
+pub open-taken : (live spare : State) → asTaken (answer (pieces.told (opening live spare))) ≡ pieces.told (opening live spare)
+unfolding opening
+open-taken live spare = go (bothSized live spare)
+  where
+    go : (b : Bool) → let a = pieces.told (pick b (Come fresh) wrongLength) in asTaken (answer a) ≡ a
+    go true = refl
+    go false = refl
+
+above-zero : (k q : ℕ) → 0 < k → Numbered (refused k q)
+above-zero k q h n p e z = let m : k ≡ n = number-one e in omega arith
+
+feed-numbered : (p : Progress) (spare : State) (l : List ℕ) → Numbered (pieces.told (feeding p spare l))
+unfolding feeding
+feed-numbered p spare l = go (sized spare)
+  where
+    go : (b : Bool) → Numbered (pieces.told (pick b (Come (counted (after p l))) wrongLength))
+    go true = λ n q e z. told-apart e
+    go false = above-zero 6 0 (omega arith)
+
+pub feed-taken : (p : Progress) (spare : State) (l : List ℕ)
+    → asTaken (answer (pieces.told (feeding p spare l))) ≡ pieces.told (feeding p spare l)
+feed-taken p spare l = taken (pieces.told (feeding p spare l)) (omega (arith, feed-uncut p spare l)) (feed-numbered p spare l)
+
+close-numbered : (p : Progress) (live spare : State) → Numbered (closeAnswer p live spare)
+unfolding closeAnswer closing
+close-numbered p live spare =
+    go (bothSized live spare) (ltb 65536 (p .come)) (between p) (eqb (p .fault) 0) (eqb (p .fault) 3) (eqb (p .fault) 4)
+  where
+    go : (a b c d f g : Bool)
+        → Numbered
+        (pick a
+        (pick b (refused 1 0)
+        (pick c (pick d (answered (p .writes)) (refused (pick f 3 (pick g 4 5)) (p .place))) (refused 2 (p .place))))
+        (refused 6 0))
+    go true true c d f g = above-zero 1 0 (omega arith)
+    go true false true true f g = λ n q e z. told-apart e
+    go true false true false true g = above-zero 3 (p .place) (omega arith)
+    go true false true false false true = above-zero 4 (p .place) (omega arith)
+    go true false true false false false = above-zero 5 (p .place) (omega arith)
+    go true false false d f g = above-zero 2 (p .place) (omega arith)
+    go false b c d f g = above-zero 6 0 (omega arith)
+
+pub close-taken : (p : Progress) (live spare : State) → p .place < 0x100000000 → p .writes < 0x100000000
+    → asTaken (answer (closeAnswer p live spare)) ≡ closeAnswer p live spare
+close-taken p live spare h g = taken (closeAnswer p live spare) (close-uncut p live spare h g) (close-numbered p live spare)
 
 -- of those that the promises of `pica_decode` and `pica_fragment` give
 abbrev pub decodeAnswer : Decoded → Answer

@@ -27,7 +27,7 @@ use Rattle.registers.specs.Applied.{cellsAfter, put, apply, applyAll}
 
 -- what f sees of a state stays by a write, where it stays by each of the three things that a write can do
 module _ {A : Type 0} (f : State → A) where
-  write-keeps : (s : State) (w : Write)
+  pub write-keeps : (s : State) (w : Write)
       → f (st (fogCells (s .cells)) (fogEntries (s .cells) (s .fog) (w .value)) (s .light)) ≡ f s
       → f (st (lightCells (s .cells)) (s .fog) (lightEntries (s .cells) (s .light) (w .value))) ≡ f s
       → f (st (cellsAfter (s .cells) (w .id) (spread (w .mask)) (w .value)) (s .fog) (s .light)) ≡ f s
@@ -44,7 +44,7 @@ module _ {A : Type 0} (f : State → A) where
       go false false = cells
 
   -- and then by any run of writes
-  run-keeps : ((s : State) (w : Write) → f (apply s w) ≡ f s) → (s : State) (ws : List Write) → f (applyAll s ws) ≡ f s
+  pub run-keeps : ((s : State) (w : Write) → f (apply s w) ≡ f s) → (s : State) (ws : List Write) → f (applyAll s ws) ≡ f s
   unfolding applyAll
   run-keeps h s [] = refl
   run-keeps h s (w ∷ ws) = run-keeps h (apply s w) ws ∙ h s w

@@ -118,20 +118,20 @@ pub extern "C" fn pica_feed(
         r
         ≡ answer
         (pieces.told
-        (feeding (progressOf (now (reader .entry))) (st (now («spare_cells» .entry)) (now («spare_fog» .entry)) (now («spare_light» .entry)))
-        (now (part .entry))))
+        (feeding (progressOf (now (reader .entry)))
+        (st (now («spare_cells» .entry)) (now («spare_fog» .entry)) (now («spare_light» .entry))) (now (part .entry))))
         ⌝ }
     ensures reader { λ _. ⌜
         now (reader .exit)
         ≡ readerAfter
-        (feeding (progressOf (now (reader .entry))) (st (now («spare_cells» .entry)) (now («spare_fog» .entry)) (now («spare_light» .entry)))
-        (now (part .entry)))
+        (feeding (progressOf (now (reader .entry)))
+        (st (now («spare_cells» .entry)) (now («spare_fog» .entry)) (now («spare_light» .entry))) (now (part .entry)))
         (now (reader .entry))
         ⌝ }
     ensures spare { λ _. ⌜
         st (now («spare_cells» .exit)) (now («spare_fog» .exit)) (now («spare_light» .exit))
-        ≡ fedSpare (progressOf (now (reader .entry))) (st (now («spare_cells» .entry)) (now («spare_fog» .entry)) (now («spare_light» .entry)))
-        (now (part .entry))
+        ≡ fedSpare (progressOf (now (reader .entry)))
+        (st (now («spare_cells» .entry)) (now («spare_fog» .entry)) (now («spare_light» .entry))) (now (part .entry))
         ⌝ }
 {
     let p = readers::progress_of(reader);

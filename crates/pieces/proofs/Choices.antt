@@ -6,14 +6,12 @@ use lib.Dec.{eqb, leb}
 use borrow.Author.Tests.{eqb-true, leb-true}
 use Rattle.numbers.proofs.Tests.{and-true}
 
-pub between-facts : (l p b f n : ℕ) → ((((eqb l 0 && eqb p 0) && eqb b 0) && eqb f 0) && leb 2 n) ≡ true
-    → (l ≡ 0) × (p ≡ 0) × (b ≡ 0) × (f ≡ 0) × (2 ≤ n)
-between-facts l p b f n e =
-    let t = and-true (((eqb l 0 && eqb p 0) && eqb b 0) && eqb f 0) (leb 2 n) e in
-    let u = and-true ((eqb l 0 && eqb p 0) && eqb b 0) (eqb f 0) (t .0) in
+pub between-facts : (l p b f : ℕ) → (((eqb l 0 && eqb p 0) && eqb b 0) && eqb f 0) ≡ true → (l ≡ 0) × (p ≡ 0) × (b ≡ 0) × (f ≡ 0)
+between-facts l p b f e =
+    let u = and-true ((eqb l 0 && eqb p 0) && eqb b 0) (eqb f 0) e in
     let v = and-true (eqb l 0 && eqb p 0) (eqb b 0) (u .0) in
     let w = and-true (eqb l 0) (eqb p 0) (v .0) in
-    (eqb-true l 0 (w .0), eqb-true p 0 (w .1), eqb-true b 0 (v .1), eqb-true f 0 (u .1), leb-true 2 n (t .1))
+    (eqb-true l 0 (w .0), eqb-true p 0 (w .1), eqb-true b 0 (v .1), eqb-true f 0 (u .1))
 
 pub whole-facts : (a b c d : ℕ) (t : Bool) → ((leb a b && leb c d) && t) ≡ true → (a ≤ b) × (c ≤ d) × (t ≡ true)
 whole-facts a b c d t e =

@@ -232,7 +232,7 @@ module _ (l : List ℕ) where
         (both-ways l p (closed 0) (closed n) i (i + 2 + countOf h) (i + 2 + countOf h + n) _ [] (rw (c, d) at all) three)
 
 -- a way, with what its writes leave of a state
-pub leads-by : (l : List ℕ) (p q : Progress) (i j : ℕ) (s t : State) (ws : List Write) → Way l p i q j ws → i < j → j ≤ length l
+pub leads-by : (l : List ℕ) (p q : Progress) (i j : ℕ) (s t : State) (ws : List Write) → Way l p i q j ws → i ≤ j → j ≤ length l
     → t ≡ applyAll s ws → Leads l p i s q j t
 leads-by l p q i j s t ws w f h e =
     record {
@@ -240,4 +240,16 @@ leads-by l p q i j s t ws w f h e =
       inside = h;
       progress = w .progress;
       state = rw (e, ← (w .writes)) (sym (apply-append s ws (made q (drop j l))));
+    }
+
+pub leads-none : (l : List ℕ) (p : Progress) (i : ℕ) (s : State) → i ≤ length l → Leads l p i s p i s
+leads-none l p i s h = record { further = omega arith; inside = h; progress = refl; state = refl }
+
+pub leads-on : (l : List ℕ) (p q r : Progress) (i j k : ℕ) (s t u : State) → Leads l p i s q j t → Leads l q j t r k u → Leads l p i s r k u
+leads-on l p q r i j k s t u a b =
+    record {
+      further = omega (arith, a .further, b .further);
+      inside = b .inside;
+      progress = b .progress ∙ a .progress;
+      state = b .state ∙ a .state;
     }

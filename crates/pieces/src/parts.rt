@@ -150,7 +150,8 @@ fn take_one(
 ) -> Reached
     requires { ⌜ Lengths (now cells) (now fog) (now light) × LookupTables (now slots) (now held) ⌝ }
     requires { ⌜ at < length (now part) ⌝ }
-    ensures { λ r. ⌜
+    ensures further { λ r. ⌜ at < r .at ⌝ }
+    ensures leads { λ r. ⌜
         Leads (now (part .entry)) p at (st (now (cells .entry)) (now (fog .entry)) (now (light .entry)))
         (r .progress) (r .at) (st (now (cells .exit)) (now (fog .exit)) (now (light .exit)))
         ⌝ }
@@ -162,8 +163,10 @@ fn take_one(
     }
 }
 
-// The next command, at once where its words are all here and none of its writes can be at fault; else its first word.
-fn take_command(
+// The commands from `at` on whose words are all here and below the limit, one after another, as long as none of their writes can be at
+// fault. What the next word goes by is kept apart, and put together at the end: a progress that is written in parts and read whole holds
+// up each command.
+fn take_commands(
     p: Progress,
     cells: &mut [u32],
     fog: &mut [u32],
@@ -174,31 +177,53 @@ fn take_command(
     at: usize,
 ) -> Reached
     requires { ⌜ Lengths (now cells) (now fog) (now light) × LookupTables (now slots) (now held) ⌝ }
-    requires { ⌜ (at + 2 ≤ length (now part)) × (p .left ≡ 0) × (p .pad ≡ 0) × (p .begun ≡ 0) × (p .fault ≡ 0) ⌝ }
+    requires { ⌜ (at ≤ length (now part)) × (p .left ≡ 0) × (p .pad ≡ 0) × (p .begun ≡ 0) × (p .fault ≡ 0) ⌝ }
     ensures { λ r. ⌜
         Leads (now (part .entry)) p at (st (now (cells .entry)) (now (fog .entry)) (now (light .entry)))
         (r .progress) (r .at) (st (now (cells .exit)) (now (fog .exit)) (now (light .exit)))
         ⌝ }
 {
-    let h = words::parts(part[at + 1]);
-    let taken = words::words_taken(h);
-    let last = commands::last_id(h.id, h.count, h.step);
-    let here = (taken <= part.len() - at) & (p.come as usize + taken <= 65536);
-    if !(here & commands::is_clear(h.id, last, h.mask)) {
-        return take_one(p, cells, fog, light, slots, held, part, at);
+    let mut come = p.come;
+    let mut place = p.place;
+    let mut first = p.first;
+    let mut id = p.id;
+    let mut mask = p.mask;
+    let mut step = p.step;
+    let mut writes = p.writes;
+    let mut i = at;
+    'commands: while 2 <= part.len() - i {
+        let h = words::parts(part[i + 1]);
+        let taken = words::words_taken(h);
+        let last = commands::last_id(h.id, h.count, h.step);
+        let here = (taken <= part.len() - i) & (come as usize + taken <= 65536);
+        if !(here & commands::is_clear(h.id, last, h.mask)) {
+            break 'commands;
+        }
+        commands::apply_run(cells, fog, light, slots, held, h, part[i], part, i + 2);
+        place = come;
+        come += (h.count + 3) / 2 * 2;
+        first = part[i];
+        id = last;
+        mask = h.mask;
+        step = h.step;
+        writes = std::num::wrapping_add_u32(writes, h.count + 1);
+        i += taken;
     }
-    commands::apply_run(cells, fog, light, slots, held, h, part[at], part, at + 2);
-    let mut q = p;
-    q.come = p.come + (h.count + 3) / 2 * 2;
-    q.place = p.come;
-    q.first = part[at];
-    q.id = last;
-    q.mask = h.mask;
-    q.step = h.step;
-    q.writes = std::num::wrapping_add_u32(p.writes, h.count + 1);
     Reached {
-        progress: q,
-        at: at + taken,
+        progress: Progress {
+            come,
+            place,
+            begun: p.begun,
+            first,
+            id,
+            mask,
+            step,
+            left: p.left,
+            pad: p.pad,
+            writes,
+            fault: p.fault,
+        },
+        at: i,
     }
 }
 
@@ -234,7 +259,8 @@ fn take_extras(
 ) -> Reached
     requires { ⌜ Lengths (now cells) (now fog) (now light) × LookupTables (now slots) (now held) ⌝ }
     requires { ⌜ (at < length (now part)) × (0 < p .left) ⌝ }
-    ensures { λ r. ⌜
+    ensures further { λ r. ⌜ at < r .at ⌝ }
+    ensures leads { λ r. ⌜
         Leads (now (part .entry)) p at (st (now (cells .entry)) (now (fog .entry)) (now (light .entry)))
         (r .progress) (r .at) (st (now (cells .exit)) (now (fog .exit)) (now (light .exit)))
         ⌝ }
@@ -265,7 +291,7 @@ fn take_extras(
     }
 }
 
-// Some words from `at` on: a command, extra parameters, or one word.
+// Some words from `at` on: commands, extra parameters, or one word.
 fn take_some(
     p: Progress,
     cells: &mut [u32],
@@ -278,13 +304,19 @@ fn take_some(
 ) -> Reached
     requires { ⌜ Lengths (now cells) (now fog) (now light) × LookupTables (now slots) (now held) ⌝ }
     requires { ⌜ at < length (now part) ⌝ }
-    ensures { λ r. ⌜
+    ensures further { λ r. ⌜ at < r .at ⌝ }
+    ensures leads { λ r. ⌜
         Leads (now (part .entry)) p at (st (now (cells .entry)) (now (fog .entry)) (now (light .entry)))
         (r .progress) (r .at) (st (now (cells .exit)) (now (fog .exit)) (now (light .exit)))
         ⌝ }
 {
-    if (p.left == 0) & (p.pad == 0) & (p.begun == 0) & (p.fault == 0) & (2 <= part.len() - at) {
-        return take_command(p, cells, fog, light, slots, held, part, at);
+    if (p.left == 0) & (p.pad == 0) & (p.begun == 0) & (p.fault == 0) {
+        let r = take_commands(p, cells, fog, light, slots, held, part, at);
+        if at < r.at {
+            return r;
+        }
+        let reached = r.progress;
+        return take_one(reached, cells, fog, light, slots, held, part, r.at);
     }
     if 0 < p.left {
         return take_extras(p, cells, fog, light, slots, held, part, at);

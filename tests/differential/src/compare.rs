@@ -5,6 +5,7 @@ use crate::machine::Machine;
 use crate::memory::{locate, parts, Memory};
 use crate::model::HELD;
 use crate::random::Random;
+use crate::sessions;
 
 /// Cases that share one garbage state; each block can be run alone.
 pub const BLOCK: u64 = 250;
@@ -20,19 +21,24 @@ pub struct Tally {
     answered: [u64; KINDS.len()],
     refused: [u64; NUMBERS],
     verdicts: [u64; 4],
+    closes: [u64; 7],
 }
 
 impl Tally {
-    fn count(&mut self, kind: Kind, answer: u64) {
+    /// Counts a case: a call's answer, or a session's closes, of which the last
+    /// one says whether the session was answered.
+    fn count(&mut self, kind: Kind, answers: &[u64]) {
         self.cases[kind as usize] += 1;
-        let (number, low) = ((answer >> 32) as usize, answer as u32 as usize);
-        if number == 0 {
-            self.answered[kind as usize] += 1;
-            if kind == Kind::Fragment {
-                self.verdicts[low] += 1;
-            }
-        } else {
+        self.answered[kind as usize] +=
+            u64::from(answers.last().is_some_and(|last| last >> 32 == 0));
+        for answer in answers {
+            let (number, low) = ((answer >> 32) as usize, *answer as u32 as usize);
             self.refused[number] += 1;
+            match kind {
+                Kind::Fragment if number == 0 => self.verdicts[low] += 1,
+                Kind::Pieces => self.closes[number] += 1,
+                _ => {}
+            }
         }
     }
 
@@ -44,6 +50,7 @@ impl Tally {
         pairs(&mut self.answered, &other.answered);
         pairs(&mut self.refused, &other.refused);
         pairs(&mut self.verdicts, &other.verdicts);
+        pairs(&mut self.closes, &other.closes);
     }
 
     pub fn text(&self) -> String {
@@ -53,10 +60,12 @@ impl Tally {
         });
         let refused = REFUSALS.map(|number| format!("{number}:{}", self.refused[number]));
         let verdicts = self.verdicts.map(|count| count.to_string());
+        let closes = self.closes.map(|count| count.to_string());
         format!(
-            "{}; verdicts {}; refused {}",
+            "{}; verdicts {}; closes {}; refused {}",
             kinds.join(", "),
             verdicts.join("/"),
+            closes.join("/"),
             refused.join(" ")
         )
     }
@@ -80,6 +89,11 @@ impl Tally {
                 lacks.push(format!("verdict {verdict} not met"));
             }
         }
+        for (number, &count) in self.closes.iter().enumerate() {
+            if count == 0 {
+                lacks.push(format!("close with {number} not met"));
+            }
+        }
         lacks
     }
 }
@@ -91,7 +105,7 @@ pub struct Difference {
 }
 
 fn call(machine: &Machine, case: &Case, memory: &mut Memory) -> u64 {
-    let Memory { state, lent } = memory;
+    let Memory { state, lent, .. } = memory;
     let state = parts(state, case.state);
     match case.kind {
         Kind::Read => {
@@ -119,6 +133,7 @@ fn call(machine: &Machine, case: &Case, memory: &mut Memory) -> u64 {
             let stored = stored.try_into().expect("3 words stored");
             (machine.fragment)(state, given, stored)
         }
+        Kind::Pieces => unreachable!("a session has calls of its own"),
     }
 }
 
@@ -136,7 +151,37 @@ fn answer_text(answer: u64) -> String {
     }
 }
 
+/// Buffers that lie in one layout, on both sides.
+pub struct Buffers<'a> {
+    pub names: &'a [&'a str],
+    pub lengths: &'a [usize],
+    pub library: &'a [u32],
+    pub model: &'a [u32],
+}
+
 /// The first word that differs, if one does, by its buffer's name.
+pub fn first_word(layouts: &[Buffers]) -> Option<String> {
+    layouts.iter().find_map(|buffers| {
+        let position = first_difference(buffers.library, buffers.model)?;
+        let place = locate(buffers.names, buffers.lengths, position);
+        let (left, right) = (buffers.library[position], buffers.model[position]);
+        Some(format!("{place} library {left:08X} model {right:08X}"))
+    })
+}
+
+/// Whether two calls answered and left the same; or how they differ.
+pub fn same(library: u64, model: u64, word: Option<String>) -> Result<(), String> {
+    if library == model && word.is_none() {
+        return Ok(());
+    }
+    Err(format!(
+        "library {}, model {}; first differing word: {}",
+        answer_text(library),
+        answer_text(model),
+        word.unwrap_or_else(|| "none".to_string()),
+    ))
+}
+
 fn word_text(case: &Case, library: &Memory, model: &Memory) -> Option<String> {
     let names: &[&str] = match case.kind {
         Kind::Read => &["list"],
@@ -145,23 +190,22 @@ fn word_text(case: &Case, library: &Memory, model: &Memory) -> Option<String> {
         Kind::Pack => &["ids", "masks", "values", "space"],
         Kind::Decode => &["fields"],
         Kind::Fragment => &["given", "stored"],
+        Kind::Pieces => &[],
     };
-    let (place, left, right) =
-        if let Some(position) = first_difference(&library.state, &model.state) {
-            (
-                locate(&["cells", "fog", "light"], &case.state, position),
-                library.state[position],
-                model.state[position],
-            )
-        } else {
-            let position = first_difference(&library.lent, &model.lent)?;
-            (
-                locate(names, &case.lent, position),
-                library.lent[position],
-                model.lent[position],
-            )
-        };
-    Some(format!("{place} library {left:08X} model {right:08X}"))
+    first_word(&[
+        Buffers {
+            names: &["cells", "fog", "light"],
+            lengths: &case.state,
+            library: &library.state,
+            model: &model.state,
+        },
+        Buffers {
+            names,
+            lengths: &case.lent,
+            library: &library.lent,
+            model: &model.lent,
+        },
+    ])
 }
 
 /// What the call was lent, short enough for a line.
@@ -174,7 +218,7 @@ fn arguments_text(case: &Case, memory: &mut Memory) -> String {
     let mut text = format!("state lengths {:?}", case.state);
     match case.kind {
         Kind::Write => text += &format!(", id, mask, value {:X?}", case.write),
-        Kind::Read | Kind::Writes | Kind::Pack => {}
+        Kind::Read | Kind::Writes | Kind::Pack | Kind::Pieces => {}
         Kind::Decode | Kind::Fragment => {
             let cells = memory.cells();
             let held = HELD.map(|(id, _)| format!("{id:X}={:08X}", cells[id as usize]));
@@ -219,24 +263,31 @@ impl<'a> Pair<'a> {
         for number in block * BLOCK..block * BLOCK + cases.min(BLOCK) {
             let case = next_case(&mut random, &mut self.model_memory);
             self.library_memory.copy_from(&self.model_memory);
-            let library = call(self.library, &case, &mut self.library_memory);
-            let model = call(self.model, &case, &mut self.model_memory);
-            let word = word_text(&case, &self.library_memory, &self.model_memory);
-            if library == model && word.is_none() {
-                tally.count(case.kind, model);
-                continue;
+            match self.run_case(&case) {
+                Ok(answers) => tally.count(case.kind, &answers),
+                Err(difference) => {
+                    let arguments = arguments_text(&case, &mut self.model_memory);
+                    let text = format!(
+                        "case {number}, seed {seed}, {:?}: {difference}; {arguments}",
+                        case.kind
+                    );
+                    return Err(Difference { case: number, text });
+                }
             }
-            let text = format!(
-                "case {number}, seed {seed}, {:?}: library {}, model {}; first differing word: {}; {}",
-                case.kind,
-                answer_text(library),
-                answer_text(model),
-                word.unwrap_or_else(|| "none".to_string()),
-                arguments_text(&case, &mut self.model_memory),
-            );
-            return Err(Difference { case: number, text });
         }
         Ok(())
+    }
+
+    /// What was answered; or how the two machines differ.
+    fn run_case(&mut self, case: &Case) -> Result<Vec<u64>, String> {
+        let memories = [&mut self.library_memory, &mut self.model_memory];
+        if case.kind == Kind::Pieces {
+            return sessions::run([self.library, self.model], case, memories);
+        }
+        let [left, right] = memories;
+        let library = call(self.library, case, left);
+        let model = call(self.model, case, right);
+        same(library, model, word_text(case, left, right)).map(|()| vec![model])
     }
 }
 
@@ -252,6 +303,8 @@ mod tests {
         let (mut left, mut right) = (Memory::new(), Memory::new());
         fresh_state(&mut random, &mut left);
         let mut met = [false; KINDS.len()];
+        // sessions.rs has its own.
+        met[Kind::Pieces as usize] = true;
         while met.contains(&false) {
             let case = next_case(&mut random, &mut left);
             if std::mem::replace(&mut met[case.kind as usize], true) {

@@ -1,7 +1,7 @@
 //! The library under test, through its C functions.
 
 use crate::machine::{Lent, Machine};
-use crate::model::FIELD_COUNT;
+use crate::model::{Reader, FIELD_COUNT};
 
 extern "C" {
     fn pica_read(
@@ -63,6 +63,47 @@ extern "C" {
         light_length: usize,
         given: *const u32,
         stored: *mut u32,
+    ) -> u64;
+    fn pica_open(
+        live_cells: *const u32,
+        live_cells_length: usize,
+        live_fog: *const u32,
+        live_fog_length: usize,
+        live_light: *const u32,
+        live_light_length: usize,
+        spare_cells: *mut u32,
+        spare_cells_length: usize,
+        spare_fog: *mut u32,
+        spare_fog_length: usize,
+        spare_light: *mut u32,
+        spare_light_length: usize,
+        reader: *mut u32,
+    ) -> u64;
+    fn pica_feed(
+        spare_cells: *mut u32,
+        spare_cells_length: usize,
+        spare_fog: *mut u32,
+        spare_fog_length: usize,
+        spare_light: *mut u32,
+        spare_light_length: usize,
+        reader: *mut u32,
+        part: *const u32,
+        part_length: usize,
+    ) -> u64;
+    fn pica_close(
+        live_cells: *mut u32,
+        live_cells_length: usize,
+        live_fog: *mut u32,
+        live_fog_length: usize,
+        live_light: *mut u32,
+        live_light_length: usize,
+        spare_cells: *mut u32,
+        spare_cells_length: usize,
+        spare_fog: *mut u32,
+        spare_fog_length: usize,
+        spare_light: *mut u32,
+        spare_light_length: usize,
+        reader: *mut u32,
     ) -> u64;
 }
 
@@ -168,6 +209,66 @@ fn fragment([cells, fog, light]: Lent, given: &mut [u32; 11], stored: &mut [u32;
     }
 }
 
+fn open(live: Lent, spare: Lent, reader: Reader) -> u64 {
+    let [cells, fog, light] = live;
+    let [spare_cells, spare_fog, spare_light] = spare;
+    unsafe {
+        pica_open(
+            start(cells),
+            cells.len(),
+            start(fog),
+            fog.len(),
+            start(light),
+            light.len(),
+            start(spare_cells),
+            spare_cells.len(),
+            start(spare_fog),
+            spare_fog.len(),
+            start(spare_light),
+            spare_light.len(),
+            reader.words.as_mut_ptr(),
+        )
+    }
+}
+
+fn feed([cells, fog, light]: Lent, reader: Reader, part: &mut [u32]) -> u64 {
+    unsafe {
+        pica_feed(
+            start(cells),
+            cells.len(),
+            start(fog),
+            fog.len(),
+            start(light),
+            light.len(),
+            reader.words.as_mut_ptr(),
+            start(part),
+            part.len(),
+        )
+    }
+}
+
+fn close(live: Lent, spare: Lent, reader: Reader) -> u64 {
+    let [cells, fog, light] = live;
+    let [spare_cells, spare_fog, spare_light] = spare;
+    unsafe {
+        pica_close(
+            start(cells),
+            cells.len(),
+            start(fog),
+            fog.len(),
+            start(light),
+            light.len(),
+            start(spare_cells),
+            spare_cells.len(),
+            start(spare_fog),
+            spare_fog.len(),
+            start(spare_light),
+            spare_light.len(),
+            reader.words.as_mut_ptr(),
+        )
+    }
+}
+
 pub const LIBRARY: Machine = Machine {
     read,
     write,
@@ -175,4 +276,7 @@ pub const LIBRARY: Machine = Machine {
     pack,
     decode,
     fragment,
+    open,
+    feed,
+    close,
 };

@@ -1,6 +1,6 @@
-//! The six calls, of the library or of a model, behind one form.
+//! The nine calls, of the library or of a model, behind one form.
 
-use crate::model;
+use crate::model::{self, faults::NONE, Reader};
 
 /// Three lent buffers: a state's cells, fog entries and light entries, or a
 /// run's ids, masks and values.
@@ -17,6 +17,9 @@ pub struct Machine {
     pub pack: fn(Lent, &mut [u32]) -> u64,
     pub decode: fn(Lent, &mut [u32; model::FIELD_COUNT]) -> u64,
     pub fragment: fn(Lent, &mut [u32; 11], &mut [u32; 3]) -> u64,
+    pub open: fn(Lent, Lent, Reader) -> u64,
+    pub feed: fn(Lent, Reader, &mut [u32]) -> u64,
+    pub close: fn(Lent, Lent, Reader) -> u64,
 }
 
 impl Machine {
@@ -32,6 +35,19 @@ impl Machine {
             fragment: |[cells, fog, light], given, stored| {
                 model::fragment::<F>(cells, fog, light, given, stored)
             },
+            open: |live, spare, reader| model::open(NONE, live, spare, reader),
+            feed: |spare, reader, part| model::feed(NONE, spare, reader, part),
+            close: |live, spare, reader| model::close(NONE, live, spare, reader),
+        }
+    }
+
+    /// The model with a fault in lists that arrive in pieces.
+    pub fn in_pieces<const F: u32>() -> Machine {
+        Machine {
+            open: |live, spare, reader| model::open(F, live, spare, reader),
+            feed: |spare, reader, part| model::feed(F, spare, reader, part),
+            close: |live, spare, reader| model::close(F, live, spare, reader),
+            ..Machine::model::<NONE>()
         }
     }
 }

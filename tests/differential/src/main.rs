@@ -7,6 +7,7 @@ mod machine;
 mod memory;
 mod model;
 mod random;
+mod sessions;
 
 use std::process::ExitCode;
 use std::thread;

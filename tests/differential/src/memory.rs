@@ -16,6 +16,8 @@ const STATE_WORDS: usize = CELLS + FOG_ENTRIES + LIGHT_ENTRIES + 4 * GUARD + 6;
 pub struct Memory {
     /// Cells, fog entries, light entries.
     pub state: Vec<u32>,
+    /// The same of a spare state, for lists that arrive in pieces.
+    pub spare: Vec<u32>,
     /// The other buffers of a call, as its case lays them out.
     pub lent: Vec<u32>,
 }
@@ -24,6 +26,7 @@ impl Memory {
     pub fn new() -> Memory {
         Memory {
             state: vec![0; STATE_WORDS],
+            spare: vec![0; STATE_WORDS],
             lent: Vec::new(),
         }
     }
@@ -62,6 +65,17 @@ pub fn parts<const N: usize>(mut words: &mut [u32], lengths: [usize; N]) -> [&mu
         words = rest;
         buffer
     })
+}
+
+/// Takes two buffers out of a layout: the first one, and one behind it.
+pub fn first_and<'a>(
+    words: &'a mut [u32],
+    lengths: &[usize],
+    which: usize,
+) -> (&'a mut [u32], &'a mut [u32]) {
+    let between: usize = lengths[1..which].iter().map(|length| length + GUARD).sum();
+    let (first, rest) = words[GUARD..].split_at_mut(lengths[0]);
+    (first, &mut rest[between + GUARD..][..lengths[which]])
 }
 
 /// Names the buffer, and the word in it, at a position of a layout.

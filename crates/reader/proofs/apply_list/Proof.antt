@@ -1,15 +1,16 @@
 -- The invariant: the commands that are left lead from here to the state that the whole list leads to, and each has its words.
 -- Assumes nothing.
-use mathlib.Core.Path.{_≡_, refl, sym, _∙_}
+use mathlib.Core.Path.{_≡_, refl, sym, ap, _∙_}
 use mathlib.Core.Bool.{true}
-use Prim.Native.Nat.{_-_}
+use Prim.Native.Nat.{_+_, _-_}
 use native.Mathlib.Omega.{arith}
 use borrow.Author.Needs.{needs}
-use lib.ListN.{length}
-use Rattle.words.specs.Commands.{commands, join, full}
+use lib.ListN.{length, getD}
+use Rattle.words.specs.Commands.{expand, commands, join, full}
 use Rattle.words.proofs.Laws.{expansion-of, formed-of}
 use Rattle.registers.specs.State.{st, Lengths}
 use Rattle.registers.specs.Applied.{applyAll}
+use Rattle.commands.specs.Run.{runWith}
 use Rattle.commands.proofs.Runs.{expand-from}
 use Rattle.reader.proofs.Applying.{join-applied, join-applies, full-next}
 use Rattle.reader.proofs.apply_list.Statement.{statement}
@@ -92,19 +93,25 @@ loop-again c =
     let at-loop-test = at-parts .before .before in
     let at-loop = at-loop-test .before in
     let at-start = at-loop .before .before .before .before .before .before .before in
-    let l = at-start .args .list .now in
+    let a = at-start .args in
+    let l = a .list .now in
     let o = at-loop .loop in
     let t = at-loop-test .loop-test .taken in
-    let n = full-next l (o .at) t (o .inv .1) in
     let p = at-apply-run .apply-run in
     let k = p .kept in
     let w = at-words-taken .words-taken .ensures in
     let h = at-parts .parts .ensures in
-    let e = expand-from l (o .at) in
-    let j = join-applies l (o .at) (st (o .cells) (o .fog) (o .light)) t in (
+    let s = st (o .cells) (o .fog) (o .light) in
+    let next = o .at + at-words-taken .words-taken .result in
+    let e : runWith (at-parts .parts .result) (getD l (o .at) 0) l (o .at + 2) ≡ expand l (o .at) =
+    rw (h .0, h .1, h .2, h .3) (sym (expand-from l (o .at))) in
+    let f : full l (commands l next) ≡ true = rw (w, h .2) (full-next l (o .at) t (o .inv .1) .1) in
+    let j : applyAll (applyAll s (expand l (o .at))) (join l (commands l next))
+    ≡ applyAll (st (a .cells .now) (a .fog .now) (a .light .now)) (join l (commands l 0)) =
+    rw (w, h .2) (sym (join-applies l (o .at) s t) ∙ o .inv .2) in (
       (omega (arith, k .0), omega (arith, k .1 .0), omega (arith, k .1 .1 .0)),
-      rw (w, h .2) (n .1),
-      rw (w, p .ensures, h .0, h .1, h .2, h .3, ← e) (sym j ∙ o .inv .2),
+      f,
+      ap (λ x. applyAll x (join l (commands l next))) (p .ensures ∙ ap (applyAll s) e) ∙ j,
     )
 
 same-length : tie.Need-same-length Inv-loop μ-loop

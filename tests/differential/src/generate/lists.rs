@@ -167,12 +167,18 @@ fn long_list(random: &mut Random) -> Vec<u32> {
     if random.chance(1, 3) {
         good_command(random).push(random, &mut list);
     }
+    fill(random, &mut list);
+    list
+}
+
+/// Goes on with good commands up to about the largest length.
+fn fill(random: &mut Random, list: &mut Vec<u32>) {
     while list.len() < LONGEST_LIST {
         let mut command = good_command(random);
         command.consecutive = false;
         let room = (LONGEST_LIST - list.len()) as u32;
         command.extra = (room - 2).min(random.between(200, 255));
-        command.push(random, &mut list);
+        command.push(random, list);
     }
     for _ in 0..random.pick(&[0, 0, 1, 2, 4]) {
         list.push(random.word());
@@ -180,6 +186,59 @@ fn long_list(random: &mut Random) -> Vec<u32> {
     if random.chance(1, 6) {
         list.pop();
     }
+}
+
+/// A list of about the largest length, perhaps with a fault early, and now and
+/// then far longer.
+pub fn long_list_with_fault(random: &mut Random) -> Vec<u32> {
+    let mut list = Vec::new();
+    push_good(random, &mut list, 2);
+    if random.chance(1, 2) {
+        bad_command(random).push(random, &mut list);
+    }
+    fill(random, &mut list);
+    if random.chance(1, 8) {
+        list.extend_from_within(..random.between(1, 65_535) as usize);
+    }
+    list
+}
+
+/// A list whose last command has a write at fault and lacks words.
+pub fn cut_after_fault(random: &mut Random) -> Vec<u32> {
+    let mut list = Vec::new();
+    push_good(random, &mut list, 3);
+    let start = list.len();
+    let mut command = bad_command(random);
+    command.extra = command.extra.max(1);
+    command.push(random, &mut list);
+    let most = (list.len() - start - 1) as u32;
+    let least = (command.allowed_writes() + 2).min(most);
+    list.truncate(start + random.between(least, most) as usize);
+    list
+}
+
+/// A run of data for one of the ports, perhaps after a write to its index.
+pub fn port_run(random: &mut Random) -> Vec<u32> {
+    let mut list = Vec::new();
+    push_good(random, &mut list, 1);
+    let (index, data) = random.pick(&[(0xE6, 0xE8), (0x1C5, 0x1C8)]);
+    if random.chance(1, 2) {
+        let set = Command {
+            id: index,
+            mask: 0xF,
+            extra: 0,
+            consecutive: false,
+        };
+        set.push(random, &mut list);
+    }
+    let run = Command {
+        id: data + random.below(8),
+        mask: 0xF,
+        extra: random.between(1, 255),
+        consecutive: false,
+    };
+    run.push(random, &mut list);
+    push_good(random, &mut list, 1);
     list
 }
 
@@ -187,6 +246,10 @@ pub fn list(random: &mut Random) -> Vec<u32> {
     if random.chance(1, 2000) {
         return long_list(random);
     }
+    short_list(random)
+}
+
+pub fn short_list(random: &mut Random) -> Vec<u32> {
     let mut list = Vec::new();
     match random.below(32) {
         0..=19 => {

@@ -1,7 +1,9 @@
 //! Structured cases: most are answered, the rest are refused for a chosen
 //! reason, and every choice leans on the borders of the document's rules.
 
+mod cuts;
 mod lists;
+pub mod pieces;
 mod places;
 mod states;
 mod words;
@@ -10,6 +12,7 @@ mod writes;
 use crate::memory::{Memory, STATE_LENGTHS};
 use crate::model::FIELD_COUNT;
 use crate::random::Random;
+use pieces::Step;
 
 #[derive(Clone, Copy, Debug, PartialEq, Eq)]
 pub enum Kind {
@@ -19,34 +22,39 @@ pub enum Kind {
     Pack,
     Decode,
     Fragment,
+    Pieces,
 }
 
-pub const KINDS: [(Kind, &str); 6] = [
+pub const KINDS: [(Kind, &str); 7] = [
     (Kind::Read, "read"),
     (Kind::Write, "write"),
     (Kind::Writes, "writes"),
     (Kind::Pack, "pack"),
     (Kind::Decode, "decode"),
     (Kind::Fragment, "fragment"),
+    (Kind::Pieces, "sessions of pieces"),
 ];
 
-/// A call: its kind, the lengths of what it is lent, and its plain arguments.
-/// The words themselves lie in `Memory`.
+/// A call: its kind, the lengths of what it is lent, and its plain arguments; or
+/// a session's calls. The words themselves lie in `Memory`.
 #[derive(Clone, Debug)]
 pub struct Case {
     pub kind: Kind,
     pub state: [usize; 3],
     pub lent: Vec<usize>,
     pub write: [u32; 3],
+    pub steps: Vec<Step>,
 }
 
 /// Fills the whole state with garbage; cases then change parts of it.
 pub fn fresh_state(random: &mut Random, memory: &mut Memory) {
     random.fill(&mut memory.state);
+    random.fill(&mut memory.spare);
 }
 
 pub fn next_case(random: &mut Random, memory: &mut Memory) -> Case {
     let kind = match random.below(23) {
+        _ if random.chance(1, 18) => Kind::Pieces,
         0..=7 => Kind::Read,
         8..=10 => Kind::Write,
         11..=13 => Kind::Pack,
@@ -59,15 +67,16 @@ pub fn next_case(random: &mut Random, memory: &mut Memory) -> Case {
         state: STATE_LENGTHS,
         lent: Vec::new(),
         write: words::single_write(random),
+        steps: Vec::new(),
     };
-    case.lent = lend(random, kind, memory);
+    case.lent = lend(random, &mut case, memory);
     choose_lengths(random, &mut case);
     case
 }
 
 /// Prepares the state and lays out the other buffers; gives their lengths.
-fn lend(random: &mut Random, kind: Kind, memory: &mut Memory) -> Vec<usize> {
-    match kind {
+fn lend(random: &mut Random, case: &mut Case, memory: &mut Memory) -> Vec<usize> {
+    match case.kind {
         Kind::Read => {
             states::set_indices(random, memory.cells());
             lists::lend_list(random, memory)
@@ -93,23 +102,32 @@ fn lend(random: &mut Random, kind: Kind, memory: &mut Memory) -> Vec<usize> {
             memory.lend(random, &[&given, &stored]);
             vec![11, 3]
         }
+        Kind::Pieces => {
+            states::set_indices(random, memory.cells());
+            let (steps, lengths) = pieces::lend_session(random, memory);
+            case.steps = steps;
+            lengths
+        }
     }
 }
 
 /// A long list is lent to a wrong state more often, since the order of its
-/// two refusals shows only there.
+/// two refusals shows only there. A session's calls have lengths of their own.
 fn choose_lengths(random: &mut Random, case: &mut Case) {
     let long = case.kind == Kind::Read && case.lent[0] > 65_000;
-    if !random.chance(1, if long { 3 } else { 40 }) {
-        return;
+    if case.kind != Kind::Pieces && random.chance(1, if long { 3 } else { 40 }) {
+        wrong_lengths(random, &mut case.state);
     }
+}
+
+fn wrong_lengths(random: &mut Random, lengths: &mut [usize; 3]) {
     let which = random.below(3) as usize;
     match random.below(6) {
-        0 => case.state[which] -= 1,
-        1 => case.state[which] += 1,
-        2 => case.state[which] = 0,
-        3 => case.state.swap(which, (which + 1) % 3),
-        4 => case.state.rotate_left(1),
-        _ => case.state = [0; 3],
+        0 => lengths[which] -= 1,
+        1 => lengths[which] += 1,
+        2 => lengths[which] = 0,
+        3 => lengths.swap(which, (which + 1) % 3),
+        4 => lengths.rotate_left(1),
+        _ => *lengths = [0; 3],
     }
 }

@@ -55,6 +55,17 @@ pub fn allowed<const F: u32>(id: u32, mask: u32) -> Result<(), u32> {
     Ok(())
 }
 
+/// The first words of a list's commands, as far as their headers are there.
+pub fn firsts(list: &[u32]) -> Vec<usize> {
+    let mut firsts = Vec::new();
+    let mut first = 0;
+    while first + 1 < list.len() {
+        firsts.push(first);
+        first += words_needed::<NONE>(header::<NONE>(list[first + 1]).extra);
+    }
+    firsts
+}
+
 /// Pushes the writes of the list's commands, up to the first fault.
 pub fn expand<const F: u32>(list: &[u32], writes: &mut Vec<Write>) -> Result<u32, Refusal> {
     let mut first = 0;

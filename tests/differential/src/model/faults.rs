@@ -1,19 +1,29 @@
 //! Faults that can be planted in the model, each a plausible misreading that
 //! keeps the shape of the code. The number is a constant parameter of every
-//! function, so a fault that isn't planted costs nothing.
+//! function, so a fault that isn't planted costs nothing. For lists in pieces
+//! it is a plain argument: their faults need no other code of their own.
 
 /// Nothing is planted.
 pub const NONE: u32 = 0;
 
 macro_rules! faults {
-    ($($number:literal $constant:ident $name:literal;)*) => {
+    (
+        $($number:literal $constant:ident $name:literal;)*
+        pieces:
+        $($in_pieces:literal $pieces_constant:ident $pieces_name:literal;)*
+    ) => {
         $(pub const $constant: u32 = $number;)*
+        $(pub const $pieces_constant: u32 = $in_pieces;)*
 
-        pub const FAULTS: [(u32, &str); [$($number),*].len()] = [$(($number, $name)),*];
+        pub const FAULTS: [(u32, &str); [$($number,)* $($in_pieces),*].len()] =
+            [$(($number, $name),)* $(($in_pieces, $pieces_name)),*];
 
         /// The faulty models, in the order of `FAULTS`.
         pub fn faulty_machines() -> Vec<crate::machine::Machine> {
-            vec![$(crate::machine::Machine::model::<$number>()),*]
+            vec![
+                $(crate::machine::Machine::model::<$number>(),)*
+                $(crate::machine::Machine::in_pieces::<$in_pieces>()),*
+            ]
         }
     };
 }
@@ -194,4 +204,40 @@ faults! {
     152 WRITES_MASK_0_LEFT_OUT "writes: those with mask 0 left out";
     153 WRITES_ANSWER_COMMANDS "writes: answer counts commands";
     154 WRITES_AT_MOST_4096 "writes: over 4,096 of them refused with 8";
+
+    // Lists that arrive in pieces
+    pieces:
+    155 PIECES_FAULT_BEATS_MISSING "pieces: a write at fault beats its command's missing words";
+    156 PIECES_LIMIT_UP_TO_FAULT "pieces: 1 only where no write was at fault before";
+    157 PIECES_LIMIT_ON_PART "pieces: the limit is each part's";
+    158 PIECES_LIMIT_PLACE "pieces: 1's place is the word too many";
+    159 PIECES_PLACE_IN_PART "pieces: place counted from its part's start";
+    160 PIECES_PARTS_ALONE "pieces: each part read as a list of its own";
+    161 PIECES_FIRST_LOST "pieces: first parameter before a cut forgotten";
+    162 PIECES_PADDING_LOST "pieces: padding word after a cut taken for a parameter";
+    163 PIECES_RISE_ANEW "pieces: ids rise anew after a cut";
+    164 PIECES_PORT_RUN_ENDS "pieces: a run of port data ends at a cut";
+    165 PIECES_EMPTY_ENDS "pieces: an empty part ends the list";
+    166 PIECES_COUNT_STOPS "pieces: parts after a fault not counted";
+    167 PIECES_COUNT_GOES_ON "pieces: the words come not held";
+    168 PIECES_COUNT_65536 "pieces: the words come held at 65,536";
+    169 PIECES_ANSWERS_PART "pieces: a feed answers its part's words";
+    170 PIECES_TOLD_EARLY "pieces: a feed refuses a write at fault";
+    171 PIECES_ANSWER_LAST_PART "pieces: answer counts the last part's commands";
+    172 PIECES_SPARE_WHOLE "pieces: at opening the spare state takes whole words";
+    173 PIECES_LIVE_WHOLE "pieces: the live state takes whole words";
+    174 PIECES_NAMED_TABLES "pieces: only tables with a name taken";
+    175 PIECES_INDICES_KEPT "pieces: the ports' indices not taken";
+    176 PIECES_LIVE_BEFORE_REFUSAL "pieces: live state changed by commands before a refused one";
+    177 PIECES_SPARE_KEPT "pieces: spare state not reset on a refusal";
+    178 PIECES_SPARE_OLD "pieces: spare state reset on acceptance too";
+    179 PIECES_NOT_FRESH_REFUSED "pieces: reader not fresh after a refusal";
+    180 PIECES_NOT_FRESH_ACCEPTED "pieces: reader not fresh after an acceptance";
+    181 PIECES_OPEN_GOES_ON "pieces: opening again keeps the words come";
+    182 PIECES_6_COUNTS "pieces: a feed refused with 6 counts its words";
+    183 PIECES_6_FRESHENS "pieces: a close refused with 6 leaves a fresh reader";
+    184 PIECES_ORDER_1_6 "pieces: 1 before 6 at the close";
+    185 PIECES_OPEN_LIVE_LIGHT "pieces: opening doesn't test the live state's light length";
+    186 PIECES_FEED_LIGHT "pieces: a feed doesn't test the light length";
+    187 PIECES_CLOSE_SPARE_LIGHT "pieces: close doesn't test the spare state's light length";
 }

@@ -11,17 +11,22 @@ mod expansion;
 pub mod faults;
 mod fragment;
 mod held;
+mod misjoined;
 mod names;
 mod packing;
+mod pieces;
+#[cfg(test)]
+mod pieces_examples;
 mod ports;
 mod reading;
 
-pub use commands::allowed;
+pub use commands::{allowed, firsts};
 pub use decoded::{decode, FIELD_COUNT};
 pub use expansion::{count_writes, writes};
 pub use fragment::fragment;
 pub use held::HELD;
 pub use packing::{pack, shortest_list};
+pub use pieces::{close, feed, open, take, Fed, Reader, READER};
 pub use reading::{read, write};
 
 pub const CELLS: usize = 768;

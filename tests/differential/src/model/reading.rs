@@ -7,7 +7,7 @@ use super::{given_back, held, ports, refuse, state_lengths, Refusal};
 const LONGEST_LIST: usize = 65_536;
 
 /// Applies one allowed write.
-fn apply<const F: u32>(cells: &mut [u32], fog: &mut [u32], light: &mut [u32], write: Write) {
+pub fn apply<const F: u32>(cells: &mut [u32], fog: &mut [u32], light: &mut [u32], write: Write) {
     if ports::is_data::<F>(write.id) {
         if F == DATA_CELL {
             cells[write.id as usize] = write.value;

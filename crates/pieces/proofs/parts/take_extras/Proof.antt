@@ -179,11 +179,13 @@ returns-3 c =
     let f = plain at-if1 in
     let e = at-last-id .last-id .ensures in
     let b = at-start .pre .1 in
-    let sure = sym (at-is-clear .is-clear .ensures) ∙ not-false _ (at-if2 .if2 .left) in
-    rw e
-    (leads-by l (a .p) _ (a .at) _ (st (a .cells .now) (a .fog .now) (a .light .now)) _ _
-    (run-way l _ (a .at) (a .p) (n .0) (omega (arith, n .3, b .0)) (n .2) (n .1) (f .0) (f .1) (f .2) (n .4) (rw (← e) sure))
-    (omega (arith, n .0)) (omega (arith, n .3, b .0)) (at-apply-run .apply-run .ensures))
+    let sure = sym (at-is-clear .is-clear .ensures) ∙ not-false _ (at-if2 .if2 .left) in (
+      omega (arith, n .0),
+      rw e
+          (leads-by l (a .p) _ (a .at) _ (st (a .cells .now) (a .fog .now) (a .light .now)) _ _
+          (run-way l _ (a .at) (a .p) (n .0) (omega (arith, n .3, b .0)) (n .2) (n .1) (f .0) (f .1) (f .2) (n .4) (rw (← e) sure))
+          (omega (arith, n .0)) (omega (arith, n .3, b .0)) (at-apply-run .apply-run .ensures)),
+    )
 
 pub take-extras-spec : {M : Type 1} → statement M
 take-extras-spec =

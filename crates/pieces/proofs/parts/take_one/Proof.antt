@@ -49,11 +49,13 @@ returns c =
     let at-start = at-take-word .before .before .before .before .before .before .before .before .before in
     let a = at-start .args in
     let w = at-take-word .take-word .ensures in
-    let part = a .part .now in
-    rw (w .0)
-    (leads-by part (a .p) _ (a .at) (a .at + 1) (st (a .cells .now) (a .fog .now) (a .light .now)) _ _
-    (by-word part (a .p) _ (a .at) _ (at-start .pre .1) (record { progress = refl; writes = refl }))
-    (omega arith) (omega (arith, at-start .pre .1)) (w .1))
+    let part = a .part .now in (
+      omega arith,
+      rw (w .0)
+          (leads-by part (a .p) _ (a .at) (a .at + 1) (st (a .cells .now) (a .fog .now) (a .light .now)) _ _
+          (by-word part (a .p) _ (a .at) _ (at-start .pre .1) (record { progress = refl; writes = refl }))
+          (omega arith) (omega (arith, at-start .pre .1)) (w .1)),
+    )
 
 pub take-one-spec : {M : Type 1} → statement M
 take-one-spec =

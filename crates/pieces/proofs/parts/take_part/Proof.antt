@@ -47,7 +47,7 @@ loop-less : tie.Need-loop-less Inv-loop μ-loop
 loop-less c =
     let at-take-some = c .before .before .before .before .before .before .before in
     let e = at-take-some .take-some .ensures in
-    omega (arith, e .further, e .inside)
+    omega (arith, e .0, e .1 .inside)
 
 -- src/parts.rt:314:5
 loop-again : tie.Need-loop-again Inv-loop μ-loop
@@ -56,7 +56,7 @@ loop-again c =
     let at-loop = at-take-some .before .before .before .before .before .before .before in
     let o = at-loop .loop in
     let w = at-take-some .take-some in
-    let e = w .ensures in (
+    let e = w .ensures .1 in (
       omega (arith, o .inv .0, w .kept .1 .0),
       omega (arith, o .inv .1, w .kept .1 .1 .0),
       omega (arith, o .inv .2, w .kept .1 .1 .1 .0),

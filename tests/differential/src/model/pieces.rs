@@ -1,0 +1,238 @@
+//! Lists that arrive in pieces: a reader is opened, fed parts and closed. The
+//! model keeps all parts and reads the joined list at once, at the close. The
+//! planted fault's number is a plain argument here.
+
+use super::commands::{expand, Write};
+use super::faults::*;
+use super::misjoined;
+use super::reading::{apply, list_length};
+use super::{given_back, refuse, state_lengths, Refusal, HELD, LIGHT_ENTRIES};
+
+/// The words of a reader.
+pub const READER: usize = 11;
+
+/// The words come are counted up to one more than a list may have.
+const MOST_COME: usize = 65_537;
+
+const ENTRY: u32 = 0xFF_FFFF;
+
+pub type State<'a> = [&'a mut [u32]; 3];
+
+/// What the model keeps beside a reader's words.
+#[derive(Default)]
+pub struct Fed {
+    /// The parts since the reader was fresh, joined, and where each begins.
+    pub joined: Vec<u32>,
+    pub parts: Vec<usize>,
+    /// Whether that is all. It isn't where someone else wrote to the reader or
+    /// to a state: the documents then leave open what is answered, so that the
+    /// model takes over what it was told, if that may be answered at all.
+    pub known: bool,
+    pub told: u64,
+}
+
+impl Fed {
+    fn add(&mut self, part: &[u32]) {
+        self.parts.push(self.joined.len());
+        self.joined.extend_from_slice(part);
+    }
+}
+
+pub struct Reader<'a> {
+    pub words: &'a mut [u32; READER],
+    pub fed: &'a mut Fed,
+}
+
+impl Reader<'_> {
+    fn freshen(&mut self) {
+        *self.words = [0; READER];
+        self.fed.joined.clear();
+        self.fed.parts.clear();
+        self.fed.known = true;
+    }
+}
+
+fn lengths([cells, fog, light]: &State) -> Result<(), Refusal> {
+    state_lengths(cells, fog, light)
+}
+
+/// The lengths, where a fault leaves the light buffer's out.
+fn lengths_but_light(left_out: bool, state: &State) -> Result<(), Refusal> {
+    if left_out {
+        return state_lengths(state[0], state[1], &[0; LIGHT_ENTRIES]);
+    }
+    lengths(state)
+}
+
+/// Gives one state's held bits and entries the other's values.
+pub fn take(fault: u32, to: &mut State, from: &State) {
+    for (id, held) in HELD {
+        if fault != PIECES_INDICES_KEPT || (id != 0xE6 && id != 0x1C5) {
+            put(&mut to[0][id as usize], from[0][id as usize], held);
+        }
+    }
+    for which in [1, 2] {
+        let entries = to[which].iter_mut().zip(from[which].iter());
+        for (index, (entry, value)) in entries.enumerate() {
+            if fault != PIECES_NAMED_TABLES || which == 1 || !matches!(index / 256, 2 | 7) {
+                put(entry, *value, ENTRY);
+            }
+        }
+    }
+}
+
+fn put(word: &mut u32, value: u32, bits: u32) {
+    *word = *word & !bits | value & bits;
+}
+
+/// Whole words, where only some bits are meant: a fault.
+fn take_whole(to: &mut State, from: &State) {
+    for (to, from) in to.iter_mut().zip(from) {
+        to.copy_from_slice(from);
+    }
+}
+
+pub fn open(fault: u32, live: State, spare: State, reader: Reader) -> u64 {
+    given_back(try_open(fault, live, spare, reader))
+}
+
+fn try_open(fault: u32, live: State, mut spare: State, mut reader: Reader) -> Result<u32, Refusal> {
+    lengths_but_light(fault == PIECES_OPEN_LIVE_LIGHT, &live)?;
+    lengths(&spare)?;
+    take(fault, &mut spare, &live);
+    if fault == PIECES_SPARE_WHOLE {
+        take_whole(&mut spare, &live);
+    }
+    if fault != PIECES_OPEN_GOES_ON || !reader.fed.known {
+        reader.freshen();
+    }
+    Ok(0)
+}
+
+pub fn feed(fault: u32, spare: State, reader: Reader, part: &[u32]) -> u64 {
+    given_back(try_feed(fault, spare, reader, part))
+}
+
+fn try_feed(fault: u32, spare: State, reader: Reader, part: &[u32]) -> Result<u32, Refusal> {
+    let Reader { words, fed } = reader;
+    let tested = lengths_but_light(fault == PIECES_FEED_LIGHT, &spare);
+    if tested.is_ok() && !misjoined::left_out(fault, fed) || fault == PIECES_6_COUNTS {
+        fed.add(part);
+    }
+    tested?;
+    if fault == PIECES_TOLD_EARLY {
+        misjoined::test_writes(&fed.joined)?;
+    }
+    let come = if fed.known {
+        fed.joined.len()
+    } else {
+        fed.told as usize
+    };
+    words[0] = match fault {
+        PIECES_COUNT_GOES_ON => come as u32,
+        PIECES_COUNT_65536 => come.min(MOST_COME - 1) as u32,
+        PIECES_ANSWERS_PART => part.len().min(MOST_COME) as u32,
+        _ => come.min(MOST_COME) as u32,
+    };
+    Ok(words[0])
+}
+
+pub fn close(fault: u32, live: State, spare: State, reader: Reader) -> u64 {
+    given_back(try_close(fault, live, spare, reader))
+}
+
+fn try_close(
+    fault: u32,
+    mut live: State,
+    mut spare: State,
+    mut reader: Reader,
+) -> Result<u32, Refusal> {
+    if fault == PIECES_ORDER_1_6 {
+        list_length::<NONE>(&reader.fed.joined)?;
+    }
+    let tested = lengths(&live).and(lengths_but_light(fault == PIECES_CLOSE_SPARE_LIGHT, &spare));
+    if fault == PIECES_6_FRESHENS && tested.is_err() {
+        reader.freshen();
+    }
+    tested?;
+    if fault == PIECES_SPARE_OLD {
+        take(fault, &mut spare, &live);
+    }
+    let mut writes = Vec::new();
+    let verdict = if reader.fed.known {
+        read_joined(fault, &mut live, reader.fed, &mut writes)
+    } else {
+        take_over(&mut live, &spare, reader.fed.told)
+    };
+    leave(fault, &mut live, &mut spare, verdict.is_ok(), &writes);
+    match verdict {
+        Ok(_) if fault == PIECES_NOT_FRESH_ACCEPTED => {}
+        Err(_) if fault == PIECES_NOT_FRESH_REFUSED => {}
+        _ => reader.freshen(),
+    }
+    verdict
+}
+
+/// Reads the joined list into the live state, at once.
+fn read_joined(
+    fault: u32,
+    live: &mut State,
+    fed: &Fed,
+    writes: &mut Vec<Write>,
+) -> Result<u32, Refusal> {
+    let verdict = judge(fault, fed, writes);
+    if verdict.is_ok() || fault == PIECES_LIVE_BEFORE_REFUSAL {
+        apply_all(live, writes);
+    }
+    verdict
+}
+
+fn apply_all([cells, fog, light]: &mut State, writes: &[Write]) {
+    for write in writes {
+        apply::<NONE>(cells, fog, light, *write);
+    }
+}
+
+fn judge(fault: u32, fed: &Fed, writes: &mut Vec<Write>) -> Result<u32, Refusal> {
+    let list = misjoined::list(fault, fed);
+    misjoined::limit(fault, fed, &list)?;
+    let judged = match fault {
+        PIECES_FAULT_BEATS_MISSING => expand::<ORDER_2_LAST>(&list, writes),
+        _ => expand::<NONE>(&list, writes),
+    };
+    judged.map_err(|refusal| misjoined::placed(fault, fed, refusal))?;
+    let count = writes.len() as u32;
+    match fault {
+        PIECES_RISE_ANEW => misjoined::rise_anew(fed, writes),
+        PIECES_PORT_RUN_ENDS => misjoined::port_run_ends(fed, writes),
+        PIECES_ANSWER_LAST_PART => return Ok(misjoined::writes_of_last_part(fed)),
+        _ => {}
+    }
+    Ok(count)
+}
+
+/// A close whose verdict isn't known: the live state takes the spare one's
+/// values where it was answered.
+fn take_over(live: &mut State, spare: &State, told: u64) -> Result<u32, Refusal> {
+    let low = told as u32;
+    match (told >> 32) as u32 {
+        0 => {
+            take(NONE, live, spare);
+            Ok(low)
+        }
+        number @ 2..=5 => refuse(number, low),
+        _ => refuse(1, 0),
+    }
+}
+
+/// After a close both states agree in their held bits and entries.
+fn leave(fault: u32, live: &mut State, spare: &mut State, accepted: bool, writes: &[Write]) {
+    if fault != PIECES_SPARE_OLD || !accepted {
+        take(fault, spare, live);
+    }
+    match (fault, accepted) {
+        (PIECES_LIVE_WHOLE, true) => take_whole(live, spare),
+        (PIECES_SPARE_KEPT, false) => apply_all(spare, writes),
+        _ => {}
+    }
+}
