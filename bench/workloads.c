@@ -10,7 +10,7 @@ const struct library plain = {plain_read, plain_open, plain_feed, plain_close, p
 #define FED(what, make, words, lists, number, part) {"feed, a word: " what, FEED, words, lists, make, NULL, NULL, number, part}
 #define FEEDING(what, make, words, lists, number)                                                                                       \
     FED(what ", whole", make, words, lists, number, words), FED(what ", by 4,096", make, words, lists, number, 4096),                     \
-    FED(what ", by 64", make, words, lists, number, 64), FED(what ", by 1", make, words, lists, number, 1)
+    FED(what ", by 64", make, words, lists, number, 64), FED(what ", by 1", make, 8192, 1, number, 1)
 #define LISTING(what, make, words, lists, number) {"writes, a word: " what, WRITES, words, lists, make, NULL, NULL, number, 0}
 #define PACKING(what, make, writes, runs) {"pack, a write: " what, PACK, writes, runs, NULL, make, NULL, 0, 0}
 #define DRAWING(what, make, each) {"fragment: " what, FRAGMENT, each, CALLS / each, NULL, NULL, make, 0, 0}
