@@ -111,7 +111,7 @@ static int compare_reads(void) {
     return 1;
 }
 
-/* The three lengths of the live and of the spare state. */
+/* A state, lent with these lengths. */
 #define LENT_AS(s, n) (s).cells, (n)[0], (s).fog, (n)[1], (s).light, (n)[2]
 
 static int feed_both(unsigned which, const uint32_t *part, size_t length) {
@@ -283,6 +283,7 @@ static int compare_states(void) {
 }
 
 unsigned compare_random(void) {
-    if (!compare_reads() || !compare_pieces() || !compare_writes() || !compare_lists() || !compare_packs() || !compare_states() || !all_met()) return 0;
+    if (!compare_reads() || !compare_pieces() || !compare_writes() || !compare_lists()) return 0;
+    if (!compare_packs() || !compare_states() || !all_met()) return 0;
     return READS + PIECES + WRITES_ALONE + LISTS + PACKS + STATES;
 }

@@ -4,7 +4,8 @@
 #include "bench.h"
 
 const struct library ours = {pica_read, pica_open, pica_feed, pica_close, pica_write, pica_writes, pica_pack, pica_decode, pica_fragment};
-const struct library plain = {plain_read, plain_open, plain_feed, plain_close, plain_write, plain_writes, plain_pack, plain_decode, plain_fragment};
+const struct library plain = {plain_read,   plain_open, plain_feed,   plain_close,   plain_write,
+                              plain_writes, plain_pack, plain_decode, plain_fragment};
 
 #define READING(what, make, words, lists, number) {"read, a word: " what, READ, words, lists, make, NULL, NULL, number, 0}
 #define FED(what, make, words, lists, number, part) {"feed, a word: " what, FEED, words, lists, make, NULL, NULL, number, part}
