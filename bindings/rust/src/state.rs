@@ -111,8 +111,8 @@ impl State {
     }
 
     /// Opens a list that arrives in pieces: its parts are fed to the [`Pieces`], which is then closed. The writes go to the spare
-    /// state, whose bits that count take the values of this one's first, and this state is as it was until the close. Both are
-    /// borrowed while the list is open, so that nobody else writes to them.
+    /// state, which first takes this one's values in the bits that count; this state is as it was until the close. Both are borrowed
+    /// while the list is open, so that nobody else writes to them.
     ///
     /// ```
     /// use pica::State;
