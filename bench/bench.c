@@ -13,7 +13,7 @@
 enum { PAIRS = 1001, BURST_NS = 150000 }; /* odd, so that the median is one of them */
 
 /* Both begin a page, so that neither is better placed. */
-static struct side by_ours __attribute__((aligned(4096))), by_plain __attribute__((aligned(4096)));
+static struct side by_ours __attribute__((aligned(4096))), by_plain __attribute__((aligned(4096))), by_read __attribute__((aligned(4096)));
 
 static double now(void) {
     struct timespec t;
@@ -35,12 +35,21 @@ static void must_agree(const char *what) {
 }
 
 /* A workload that is refused, but for the one that has to be, would measure next to nothing. */
-static void must_answer(const struct workload *w) {
+static void must_answer(const struct workload *w, const struct side *s, uint32_t number) {
     for (size_t k = 0; k < CALLS && k < (w->call == WRITE ? CALLS : w->times); k++) {
-        if (pica_number(by_ours.answers[k]) == w->number) continue;
-        printf("%s: refusal %u\n", w->what, (unsigned)pica_number(by_ours.answers[k]));
+        if (pica_number(s->answers[k]) == number) continue;
+        printf("%s: refusal %u\n", w->what, (unsigned)pica_number(s->answers[k]));
         exit(1);
     }
+}
+
+/* What is fed is also read at once, by the proved library: where the list is accepted, both leave the same state. */
+static void must_read_alike(const struct workload *w, const struct workload *whole) {
+    work(whole, &ours, &by_read, 1);
+    must_answer(whole, &by_read, w->number);
+    if (w->number != 0 || memcmp(&by_ours.state, &by_read.state, sizeof by_read.state) == 0) return;
+    printf("%s: the state is not what reading leaves\n", w->what);
+    exit(1);
 }
 
 /* How many rounds make a burst. */
@@ -63,24 +72,36 @@ static double median(double *of) {
 static double greatest;
 static char greatest_name[64];
 
-static void measure(const struct workload *w) {
-    static double a[PAIRS], b[PAIRS], ratios[PAIRS];
-    size_t units = prepared(w);
-    unsigned times = calibrated(w);
+/* Both begin alike; a reader that is closed is a fresh one. */
+static void set_out(const struct workload *w) {
     memset(&by_ours, 0xA5, sizeof by_ours);
-    by_plain = by_ours;
+    memset(by_ours.reader, 0, sizeof by_ours.reader);
+    by_read = by_plain = by_ours;
     work(w, &ours, &by_ours, 1);
     work(w, &plain, &by_plain, 1);
     must_agree(w->what);
-    must_answer(w);
+    must_answer(w, &by_ours, w->call == FEED ? 0 : w->number);
+}
+
+static void measure(const struct workload *w) {
+    static double a[PAIRS], b[PAIRS], ratios[PAIRS], by_reading[PAIRS];
+    struct workload whole = *w;
+    size_t units = prepared(w);
+    unsigned times = calibrated(w);
+    set_out(w);
+    whole.call = READ;
+    if (w->call == FEED) must_read_alike(w, &whole);
     for (int k = 0; k < PAIRS; k++) {
         a[k] = burst(w, &ours, &by_ours, times);
         b[k] = burst(w, &plain, &by_plain, times);
         ratios[k] = a[k] / b[k];
+        if (w->call == FEED) by_reading[k] = a[k] / burst(&whole, &ours, &by_read, times);
     }
     must_agree(w->what);
     double all = (double)times * units, ratio = median(ratios);
-    printf("%-56s %9.2f %9.2f %7.2f\n", w->what, median(a) / all, median(b) / all, ratio);
+    printf("%-56s %9.2f %9.2f %7.2f", w->what, median(a) / all, median(b) / all, ratio);
+    if (w->call == FEED) printf(" %7.2f", median(by_reading));
+    printf("\n");
     fflush(stdout);
     if (ratio > greatest) {
         greatest = ratio;
@@ -94,7 +115,7 @@ int main(int count, char **words) {
     if (cases == 0) return 1;
     printf("benchmark: %u random cases: the same answers and buffers as plain C\n", cases);
     if (strcmp(only, "--compare") == 0) return 0;
-    printf("%-56s %9s %9s %7s\n", "what", "ours ns", "plain ns", "ratio");
+    printf("%-56s %9s %9s %7s %7s\n", "what", "ours ns", "plain ns", "ratio", "by read");
     for (size_t k = 0; k < workload_count; k++)
         if (strstr(workloads[k].what, only)) measure(&workloads[k]);
     if (greatest == 0) {

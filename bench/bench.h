@@ -13,6 +13,11 @@ struct state {
 /* The proved library and the plain version are called through the same table, so that the way of calling costs both the same. */
 struct library {
     uint64_t (*read)(uint32_t *, size_t, uint32_t *, size_t, uint32_t *, size_t, const uint32_t *, size_t);
+    uint64_t (*open)(const uint32_t *, size_t, const uint32_t *, size_t, const uint32_t *, size_t, uint32_t *, size_t, uint32_t *, size_t,
+                     uint32_t *, size_t, uint32_t *);
+    uint64_t (*feed)(uint32_t *, size_t, uint32_t *, size_t, uint32_t *, size_t, uint32_t *, const uint32_t *, size_t);
+    uint64_t (*close)(uint32_t *, size_t, uint32_t *, size_t, uint32_t *, size_t, uint32_t *, size_t, uint32_t *, size_t, uint32_t *,
+                      size_t, uint32_t *);
     uint64_t (*write)(uint32_t *, size_t, uint32_t *, size_t, uint32_t *, size_t, uint32_t, uint32_t, uint32_t);
     uint64_t (*writes)(const uint32_t *, size_t, uint32_t *, size_t, uint32_t *, size_t, uint32_t *, size_t);
     uint64_t (*pack)(const uint32_t *, size_t, const uint32_t *, size_t, const uint32_t *, size_t, uint32_t *, size_t);
@@ -66,7 +71,8 @@ void six_at_work(uint32_t *cells);
 enum { CALLS = 4096 }; /* of a round, where a call is a decoding or a fragment */
 
 struct side {
-    struct state state;
+    struct state state, spare;
+    uint32_t reader[PICA_READER];
     uint32_t space[2 * PICA_RUN_LENGTH_MOST];
     uint32_t ids[PICA_LIST_LENGTH_MOST], masks[PICA_LIST_LENGTH_MOST], values[PICA_LIST_LENGTH_MOST];
     uint32_t fields[PICA_FIELDS_LENGTH];
@@ -74,16 +80,17 @@ struct side {
     uint64_t answers[CALLS]; /* of the last calls */
 };
 
-enum call { READ, WRITE, WRITES, PACK, DECODE, FRAGMENT };
+enum call { READ, OPEN, FEED, CLOSE, WRITE, WRITES, PACK, DECODE, FRAGMENT };
 
 struct workload {
     const char *what;
     enum call call;
     size_t each, times; /* the words of a list, the writes of a run, or the calls for which a state stays; and how often in a round */
-    void (*list)(struct list *, size_t); /* of a reading or of a list's writes */
+    void (*list)(struct list *, size_t); /* of a reading, whole or in pieces, or of a list's writes */
     void (*run)(struct run *, size_t);   /* of a packing or of single writes */
     void (*drawn)(uint32_t *);           /* of a decoding or a fragment: makes the cells of a state */
-    uint32_t number;                     /* the refusal that the calls must give, 0 for none */
+    uint32_t number;                     /* the refusal that the calls, or the reading of the list, must give, 0 for none */
+    size_t part;                         /* the words of a part, where a list is fed */
 };
 
 extern const struct workload workloads[];

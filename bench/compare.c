@@ -4,13 +4,14 @@
 
 #include "bench.h"
 
-enum { READS = 40000, WRITES_ALONE = 20000, LISTS = 30000, PACKS = 30000, STATES = 30000 };
+enum { READS = 40000, PIECES = 40000, WRITES_ALONE = 20000, LISTS = 30000, PACKS = 30000, STATES = 30000 };
 
 static struct state left_by_ours, left_by_plain;
+static struct in_pieces { struct state live, spare; uint32_t reader[PICA_READER]; } fed_by_ours, fed_by_plain;
 
 /* How often each call was answered with each number, so that no rule goes untried unnoticed. */
-static const char *const names[] = {"read", "write", "writes", "pack", "decode", "fragment"};
-enum { CALLS_MADE = 6, NUMBERS = 23 };
+static const char *const names[] = {"read", "open", "feed", "close", "write", "writes", "pack", "decode", "fragment"};
+enum { CALLS_MADE = 9, NUMBERS = 23 };
 static unsigned met[CALLS_MADE][NUMBERS];
 
 static int alike(enum call call, unsigned which, uint64_t a, uint64_t b, const void *x, const void *y, size_t size) {
@@ -25,7 +26,7 @@ static int alike(enum call call, unsigned which, uint64_t a, uint64_t b, const v
 
 /* Every number that a call can answer with was met at least ten times, and a third of the calls were answered. */
 static int all_met(void) {
-    static const uint32_t numbers[CALLS_MADE] = {0x7F, 0x279, 0x4000BF, 0x7B9, 0x2041, 0x7041}; /* a bit for each */
+    static const uint32_t numbers[CALLS_MADE] = {0x7F, 0x41, 0x41, 0x7F, 0x279, 0x4000BF, 0x7B9, 0x2041, 0x7041}; /* a bit for each */
     for (int call = 0; call < CALLS_MADE; call++) {
         unsigned all = 0;
         for (int k = 0; k < NUMBERS; k++) all += met[call][k];
@@ -106,6 +107,53 @@ static int compare_reads(void) {
         uint64_t x = ours.read(a->cells, n[0], a->fog, n[1], a->light, n[2], list.words, list.length);
         uint64_t y = plain.read(b->cells, n[0], b->fog, n[1], b->light, n[2], list.words, list.length);
         if (!alike(READ, k, x, y, a, b, sizeof *a)) return 0;
+    }
+    return 1;
+}
+
+/* A state, lent with these lengths. */
+#define LENT_AS(s, n) (s).cells, (n)[0], (s).fog, (n)[1], (s).light, (n)[2]
+
+static int feed_both(unsigned which, const uint32_t *part, size_t length) {
+    struct in_pieces *a = &fed_by_ours, *b = &fed_by_plain;
+    size_t n[3];
+    lengths(n);
+    uint64_t x = ours.feed(LENT_AS(a->spare, n), a->reader, part, length), y = plain.feed(LENT_AS(b->spare, n), b->reader, part, length);
+    return alike(FEED, which, x, y, a->reader, b->reader, sizeof a->reader); /* the states are compared at the close */
+}
+
+/* Opened, or the reader as the last close left it, or any words; fed by parts of any length; closed. Wrong lengths come at any call. */
+static int compare_one_in_pieces(unsigned which, const struct list *list) {
+    struct in_pieces *a = &fed_by_ours, *b = &fed_by_plain;
+    size_t n[3], m[3], longest = below(2) ? 1 + below(4) : 1 + below((uint32_t)list->length + 1);
+    lengths(n), lengths(m);
+    if (below(8)) {
+        uint64_t x = ours.open(LENT_AS(a->live, n), LENT_AS(a->spare, m), a->reader);
+        uint64_t y = plain.open(LENT_AS(b->live, n), LENT_AS(b->spare, m), b->reader);
+        if (!alike(OPEN, which, x, y, a, b, sizeof *a)) return 0;
+    } else if (below(8) == 0) {
+        for (int k = 0; k < PICA_READER; k++) a->reader[k] = b->reader[k] = below(2) ? below(4) : any() >> below(32);
+    }
+    for (size_t at = 0, part; at < list->length; at += part) {
+        part = below((uint32_t)longest + 1);
+        if (part > list->length - at) part = list->length - at;
+        if (!feed_both(which, list->words + at, part)) return 0;
+    }
+    lengths(n), lengths(m);
+    uint64_t x = ours.close(LENT_AS(a->live, n), LENT_AS(a->spare, m), a->reader);
+    uint64_t y = plain.close(LENT_AS(b->live, n), LENT_AS(b->spare, m), b->reader);
+    return alike(CLOSE, which, x, y, a, b, sizeof *a);
+}
+
+static int compare_pieces(void) {
+    static struct list list;
+    for (unsigned k = 0; k < PIECES; k++) {
+        if (k % 64 == 0) {
+            fill((uint32_t *)&fed_by_ours, sizeof fed_by_ours / sizeof(uint32_t));
+            fed_by_plain = fed_by_ours;
+        }
+        random_list(&list);
+        if (!compare_one_in_pieces(k, &list)) return 0;
     }
     return 1;
 }
@@ -235,6 +283,7 @@ static int compare_states(void) {
 }
 
 unsigned compare_random(void) {
-    if (!compare_reads() || !compare_writes() || !compare_lists() || !compare_packs() || !compare_states() || !all_met()) return 0;
-    return READS + WRITES_ALONE + LISTS + PACKS + STATES;
+    if (!compare_reads() || !compare_pieces() || !compare_writes() || !compare_lists()) return 0;
+    if (!compare_packs() || !compare_states() || !all_met()) return 0;
+    return READS + PIECES + WRITES_ALONE + LISTS + PACKS + STATES;
 }

@@ -3,13 +3,18 @@
 
 #include "bench.h"
 
-const struct library ours = {pica_read, pica_write, pica_writes, pica_pack, pica_decode, pica_fragment};
-const struct library plain = {plain_read, plain_write, plain_writes, plain_pack, plain_decode, plain_fragment};
+const struct library ours = {pica_read, pica_open, pica_feed, pica_close, pica_write, pica_writes, pica_pack, pica_decode, pica_fragment};
+const struct library plain = {plain_read,   plain_open, plain_feed,   plain_close,   plain_write,
+                              plain_writes, plain_pack, plain_decode, plain_fragment};
 
-#define READING(what, make, words, lists, number) {"read, a word: " what, READ, words, lists, make, NULL, NULL, number}
-#define LISTING(what, make, words, lists, number) {"writes, a word: " what, WRITES, words, lists, make, NULL, NULL, number}
-#define PACKING(what, make, writes, runs) {"pack, a write: " what, PACK, writes, runs, NULL, make, NULL, 0}
-#define DRAWING(what, make, each) {"fragment: " what, FRAGMENT, each, CALLS / each, NULL, NULL, make, 0}
+#define READING(what, make, words, lists, number) {"read, a word: " what, READ, words, lists, make, NULL, NULL, number, 0}
+#define FED(what, make, words, lists, number, part) {"feed, a word: " what, FEED, words, lists, make, NULL, NULL, number, part}
+#define FEEDING(what, make, words, lists, number)                                                                                       \
+    FED(what ", whole", make, words, lists, number, words), FED(what ", by 4,096", make, words, lists, number, 4096),                     \
+    FED(what ", by 64", make, words, lists, number, 64), FED(what ", by 1", make, 8192, 1, number, 1)
+#define LISTING(what, make, words, lists, number) {"writes, a word: " what, WRITES, words, lists, make, NULL, NULL, number, 0}
+#define PACKING(what, make, writes, runs) {"pack, a write: " what, PACK, writes, runs, NULL, make, NULL, 0, 0}
+#define DRAWING(what, make, each) {"fragment: " what, FRAGMENT, each, CALLS / each, NULL, NULL, make, 0, 0}
 
 /* Where chance decides, a round is long: a short one is learned by heart by the processor. */
 const struct workload workloads[] = {
@@ -22,7 +27,18 @@ const struct workload workloads[] = {
     READING("like a capture, refused at the end", refused_at_last, 32768, 2, PICA_JUMP_REGISTER),
     READING("list of 64 words", short_held, 64, 1024, 0),
     READING("list of 4 words", short_held, 4, 4096, 0),
-    {"write: held registers", WRITE, 4096, 4, NULL, held_writes, NULL, 0},
+    FEEDING("short held commands", short_held, 32768, 2, 0),
+    FEEDING("light tables", light_uploads, 8192, 1, 0),
+    FEEDING("fog tables", fog_uploads, 8192, 1, 0),
+    FEEDING("rising, not held", long_unheld, 8192, 1, 0),
+    FEEDING("rising, 40 to 13F", long_mixed, 8192, 1, 0),
+    FEEDING("like a capture", capture, 32768, 2, 0),
+    FEEDING("refused at the end", refused_at_last, 32768, 2, PICA_JUMP_REGISTER),
+    FED("list of 64 words, whole", short_held, 64, 1024, 0, 64),
+    FED("list of 4 words, whole", short_held, 4, 4096, 0, 4),
+    {"open", OPEN, 1, 64, NULL, NULL, NULL, 0, 0},
+    {"close", CLOSE, 1, 64, NULL, NULL, NULL, 0, 0},
+    {"write: held registers", WRITE, 4096, 4, NULL, held_writes, NULL, 0, 0},
     LISTING("like a capture", capture, 8192, 8, 0),
     LISTING("like a capture, refused at the end", refused_at_last, 8192, 8, PICA_JUMP_REGISTER),
     LISTING("like a capture, the longest list", capture, 65536, 1, 0),
@@ -39,7 +55,7 @@ const struct workload workloads[] = {
     DRAWING("two stages at work, one state", two_at_work, CALLS),
     DRAWING("six random stages, one state for 64", six_at_work, 64),
     DRAWING("six random stages, many states", six_at_work, 1),
-    {"decode: valid states", DECODE, 1, CALLS, NULL, NULL, six_at_work, 0},
+    {"decode: valid states", DECODE, 1, CALLS, NULL, NULL, six_at_work, 0, 0},
 };
 const size_t workload_count = sizeof workloads / sizeof workloads[0];
 
@@ -85,11 +101,28 @@ size_t prepared(const struct workload *w) {
     return w->each * w->times;
 }
 
+/* The parts of one list, without the opening and the close. */
+static uint64_t feed_all(const struct library *l, struct side *s, const uint32_t *words, size_t n, size_t part) {
+    uint64_t answer = 0;
+    memset(s->reader, 0, sizeof s->reader);
+    for (size_t at = 0; at < n; at += part) answer = l->feed(LENT(&s->state), s->reader, words + at, n - at < part ? n - at : part);
+    return answer;
+}
+
 static void one_round(const struct workload *w, const struct library *l, struct side *s) {
     size_t n = w->each;
     switch (w->call) {
     case READ:
         for (size_t k = 0; k < w->times; k++) s->answers[k % CALLS] = l->read(LENT(&s->state), &list.words[k * n], n);
+        break;
+    case OPEN:
+        for (size_t k = 0; k < w->times; k++) s->answers[k] = l->open(LENT(&s->state), LENT(&s->spare), s->reader);
+        break;
+    case FEED:
+        for (size_t k = 0; k < w->times; k++) s->answers[k % CALLS] = feed_all(l, s, &list.words[k * n], n, w->part);
+        break;
+    case CLOSE:
+        for (size_t k = 0; k < w->times; k++) s->answers[k] = l->close(LENT(&s->state), LENT(&s->spare), s->reader);
         break;
     case WRITE:
         for (size_t k = 0; k < n * w->times; k++)

@@ -100,16 +100,39 @@ impl Entry {
     pub fn words(&self) -> Result<Vec<u32>, Fault> {
         let bytes = self.bytes(BYTES_MOST)?;
         if bytes.len() % 4 != 0 {
-            let why = format!("ends within a word ({} bytes)", bytes.len());
-            let advice = "a list is whole words of four bytes: capture it again";
-            return Err(Fault::Unreadable(Reason { why, advice }));
+            return Err(Fault::Unreadable(within_a_word(bytes.len() as u64)));
         }
-        let word = |four: &[u8]| {
-            four.iter()
-                .rev()
-                .fold(0, |word, &byte| word << 8 | u32::from(byte))
-        };
-        Ok(bytes.chunks_exact(4).map(word).collect())
+        Ok(words_of(&bytes).collect())
+    }
+
+    /// Hands its words on as they are read, some at a time, for as long as more are wanted, and gives how many there were.
+    pub fn each(&self, mut wants_more: impl FnMut(&[u32]) -> bool) -> Result<u64, Reason> {
+        let mut file = self.open()?;
+        let mut buffer = vec![0; 1 << 16];
+        let (mut total, mut kept) = (0, 0);
+        loop {
+            let got = match file.read(&mut buffer[kept..]) {
+                Ok(got) => got,
+                Err(error) if error.kind() == ErrorKind::Interrupted => continue,
+                Err(error) => return Err(error.into()),
+            };
+            total += got as u64;
+            kept += got;
+            let words: Vec<u32> = words_of(&buffer[..kept]).collect();
+            if !wants_more(&words) {
+                return Ok(total / 4);
+            }
+            buffer.copy_within(4 * words.len()..kept, 0);
+            kept -= 4 * words.len();
+            if got == 0 {
+                break;
+            }
+        }
+        if kept == 0 {
+            Ok(total / 4)
+        } else {
+            Err(within_a_word(total))
+        }
     }
 
     /// Its bytes. Where there are more, nothing is read beyond: a file tells by its length, all else by one byte too many.
@@ -151,6 +174,23 @@ impl Entry {
         }
         Ok(file)
     }
+}
+
+fn within_a_word(bytes: u64) -> Reason {
+    Reason {
+        why: format!("ends within a word ({bytes} bytes)"),
+        advice: "a list is whole words of four bytes: capture it again",
+    }
+}
+
+/// The whole words of some bytes, the lowest byte first.
+fn words_of(bytes: &[u8]) -> impl Iterator<Item = u32> + '_ {
+    let word = |four: &[u8]| {
+        four.iter()
+            .rev()
+            .fold(0, |word, &byte| word << 8 | u32::from(byte))
+    };
+    bytes.chunks_exact(4).map(word)
 }
 
 /// One path, which is no folder, or `-`.

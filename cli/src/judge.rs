@@ -4,14 +4,15 @@ use std::ffi::{OsStr, OsString};
 use std::io::Write;
 use std::path::Path;
 
+use crate::csv;
 use crate::input::{entries, shown, Entry};
 use crate::json::{object, Value};
-use crate::lists::{self, List, Problem};
+use crate::lists::{self, Problem};
 use crate::options::{parse, wrong, Known};
 use crate::output::{Output, Written};
 use crate::status::{note, Failure, Outcome, Status};
 use crate::text::{grouped, on_one_line};
-use crate::{csv, refusals};
+use crate::verdict::{fields, line, values, Accepted, Form, Verdict, COLUMNS};
 
 pub const SUMMARY: &str = "accepts or refuses lists, and says why";
 
@@ -37,25 +38,6 @@ Examples
 
 const OPTIONS: [Known; 2] = [("--csv", None), ("--json", None)];
 
-const COLUMNS: [&str; 9] = [
-    "path",
-    "verdict",
-    "writes",
-    "words",
-    "number",
-    "place",
-    "byte",
-    "meaning",
-    "what_to_do",
-];
-
-#[derive(Clone, Copy, PartialEq)]
-enum Form {
-    Text,
-    Csv,
-    Json,
-}
-
 /// How many lists of each verdict there were.
 #[derive(Default)]
 struct Count {
@@ -66,12 +48,8 @@ struct Count {
 
 pub fn run(args: &[OsString], out: &mut Output) -> Outcome {
     let given = parse("judge", args, &OPTIONS)?;
-    let form = match (given.has("--csv"), given.has("--json")) {
-        (false, false) => Form::Text,
-        (true, false) => Form::Csv,
-        (false, true) => Form::Json,
-        (true, true) => return Err(wrong("judge", "prints --csv or --json, not both")),
-    };
+    let form = Form::of(given.has("--csv"), given.has("--json"))
+        .ok_or_else(|| wrong("judge", "prints --csv or --json, not both"))?;
     if given.paths.is_empty() {
         return Err(wrong(
             "judge",
@@ -119,11 +97,12 @@ fn judge_all(entries: &[Entry], form: Form, out: &mut Output) -> Result<(Status,
     let (mut status, mut count) = (Status::Well, Count::default());
     match form {
         Form::Text => {}
-        Form::Csv => write!(out, "{}", csv::row(&COLUMNS))?,
+        Form::Csv => write!(out, "{}", csv::row(&[&["path"], &COLUMNS[..]].concat()))?,
         Form::Json => write!(out, "[")?,
     }
     for (k, entry) in entries.iter().enumerate() {
-        let (name, verdict) = (entry.name(), lists::load(entry));
+        let name = entry.name();
+        let verdict: Verdict = lists::load(entry).map(|list| Accepted::of(&list));
         match &verdict {
             Ok(_) => count.accepted += 1,
             Err(Problem::Refused(_)) => count.refused += 1,
@@ -135,13 +114,16 @@ fn judge_all(entries: &[Entry], form: Form, out: &mut Output) -> Result<(Status,
             .max(status);
         match form {
             Form::Text => writeln!(out, "{}: {}", on_one_line(&name), line(&verdict))?,
-            Form::Csv => write!(out, "{}", csv::row(&fields(&name, &verdict)))?,
-            Form::Json => write!(
-                out,
-                "{}\n  {}",
-                if k == 0 { "" } else { "," },
-                json(&name, &verdict)
-            )?,
+            Form::Csv => {
+                let row = [vec![csv::path(&name)], fields(&verdict)].concat();
+                write!(out, "{}", csv::row(&row))?;
+            }
+            Form::Json => {
+                let mut pairs = values(&verdict);
+                pairs.insert(0, ("path", Value::Text(name)));
+                let comma = if k == 0 { "" } else { "," };
+                write!(out, "{comma}\n  {}", object(&pairs))?;
+            }
         }
         out.flush()?; // so that the work ends soon after the reader has gone
     }
@@ -149,98 +131,4 @@ fn judge_all(entries: &[Entry], form: Form, out: &mut Output) -> Result<(Status,
         write!(out, "\n]\n")?;
     }
     Ok((status, count))
-}
-
-fn line(verdict: &Result<List, Problem>) -> String {
-    match verdict {
-        Err(problem) => problem.text(),
-        Ok(list) => {
-            let remark = list
-                .remark()
-                .map_or(String::new(), |remark| format!(" ({remark})"));
-            let (writes, words) = (list.writes.len() as u64, list.words.len() as u64);
-            format!(
-                "ok, {}, {}{remark}",
-                counted(writes, "write"),
-                counted(words, "word")
-            )
-        }
-    }
-}
-
-fn counted(number: u64, what: &str) -> String {
-    format!(
-        "{} {what}{}",
-        grouped(number),
-        if number == 1 { "" } else { "s" }
-    )
-}
-
-/// What CSV and JSON say of a list: the verdict, its numbers by the columns' order, and two texts.
-type Row = (&'static str, [Option<u64>; 5], [String; 2]);
-
-fn parts(verdict: &Result<List, Problem>) -> Row {
-    match verdict {
-        Ok(list) => {
-            let (writes, words) = (list.writes.len() as u64, list.words.len() as u64);
-            let remark = list.remark().unwrap_or_default().to_owned();
-            (
-                "ok",
-                [Some(writes), Some(words), None, None, None],
-                [remark, String::new()],
-            )
-        }
-        Err(Problem::Refused(refusal)) => {
-            let (number, place) = (refusal.number, u64::from(refusal.place));
-            let texts = [
-                refusals::meaning(number).to_owned(),
-                refusals::advice(number).to_owned(),
-            ];
-            (
-                "refused",
-                [
-                    None,
-                    None,
-                    Some(number.into()),
-                    Some(place),
-                    lists::byte(*refusal),
-                ],
-                texts,
-            )
-        }
-        Err(Problem::Unreadable(reason)) => (
-            "unreadable",
-            [None; 5],
-            [reason.why.clone(), reason.advice.to_owned()],
-        ),
-    }
-}
-
-fn fields(name: &str, verdict: &Result<List, Problem>) -> Vec<String> {
-    let (verdict, numbers, texts) = parts(verdict);
-    let numbers = numbers.map(|number| number.map_or(String::new(), |number| number.to_string()));
-    [csv::path(name), verdict.to_owned()]
-        .into_iter()
-        .chain(numbers)
-        .chain(texts)
-        .collect()
-}
-
-fn json(name: &str, verdict: &Result<List, Problem>) -> String {
-    let (verdict, numbers, texts) = parts(verdict);
-    let text = |text: String| {
-        if text.is_empty() {
-            Value::Null
-        } else {
-            Value::Text(text)
-        }
-    };
-    let values = [
-        Value::Text(name.to_owned()),
-        Value::Text(verdict.to_owned()),
-    ]
-    .into_iter()
-    .chain(numbers.map(Value::from))
-    .chain(texts.map(text));
-    object(&COLUMNS.into_iter().zip(values).collect::<Vec<_>>())
 }

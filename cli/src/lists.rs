@@ -71,8 +71,14 @@ impl Problem {
 fn place(refusal: Refusal) -> String {
     match byte(refusal) {
         None => String::new(),
-        Some(byte) => format!(" at word {}, byte {byte} ({byte:X}h)", refusal.place),
+        Some(_) => format!(" at {}", word(refusal.place.into())),
     }
+}
+
+/// A word by its number, and by that of its first byte.
+pub fn word(number: u64) -> String {
+    let byte = 4 * number;
+    format!("word {number}, byte {byte} ({byte:X}h)")
 }
 
 /// The byte at which the command at fault begins.

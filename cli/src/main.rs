@@ -18,6 +18,7 @@ mod options;
 mod output;
 mod pack;
 mod parts;
+mod pieces;
 mod plot;
 mod progress;
 mod rate;
@@ -27,6 +28,7 @@ mod status;
 mod svg;
 mod table;
 mod text;
+mod verdict;
 mod writes;
 
 use std::ffi::OsString;
@@ -48,8 +50,9 @@ pub struct Command {
 
 /// Every subcommand. To add one: a file beside this one with `SUMMARY`, `HELP` and `run`, its `mod` line above, and a line here.
 /// Help is answered for it, and its outcome becomes the exit status.
-pub const COMMANDS: [Command; 5] = [
+pub const COMMANDS: [Command; 6] = [
     command("judge", judge::SUMMARY, judge::HELP, judge::run),
+    command("pieces", pieces::SUMMARY, pieces::HELP, pieces::run),
     command("forecast", forecast::SUMMARY, forecast::HELP, forecast::run),
     command("show", show::SUMMARY, show::HELP, show::run),
     command("writes", writes::SUMMARY, writes::HELP, writes::run),

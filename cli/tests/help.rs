@@ -7,7 +7,7 @@ use std::path::Path;
 
 use common::pica;
 
-const COMMANDS: [&str; 5] = ["judge", "forecast", "show", "writes", "pack"];
+const COMMANDS: [&str; 6] = ["judge", "pieces", "forecast", "show", "writes", "pack"];
 
 #[test]
 fn help_is_there_for_each() {
@@ -59,7 +59,7 @@ fn the_version_is_that_of_the_header() {
 
 #[test]
 fn wrong_usage_says_what_to_do() {
-    let cases: [(&[&str], &str); 13] = [
+    let cases: [(&[&str], &str); 15] = [
         (&["jugde"], "did you mean `pica judge`?"),
         (&["\u{1b}[31m"], "there is no subcommand \\u{1b}[31m: "),
         (&["dance"], "`pica --help` lists the subcommands"),
@@ -67,6 +67,8 @@ fn wrong_usage_says_what_to_do() {
         (&["--csv"], "the subcommand comes first"),
         (&["judge"], "give files, folders or -"),
         (&["forecast"], "give files, folders or -"),
+        (&["pieces"], "give files, folders or -"),
+        (&["pieces", "--csv", "--json", "x"], "not both"),
         (&["judge", "--cvs", "x"], "did you mean --csv?"),
         (&["judge", "--csv", "--json", "x"], "not both"),
         (&["judge", "-x"], "comes after `--`"),

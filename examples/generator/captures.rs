@@ -1,12 +1,13 @@
-//! Makes the example captures: small lists that look like those of a game, with the habits of real drivers in them. Each register
+//! Makes the example captures, and the parts of one of them: small lists that look like those of a game, with the habits of real
+//! drivers in them. Each register
 //! that a game's call sets gets a command of its own, also where the next id follows; state is set again though nothing changed;
 //! tables and shader code come in pieces. README.md says what each capture is. The same bytes come out on every machine: values
 //! are whole numbers, or floats by single additions, multiplications and divisions.
 //!
-//!     captures FOLDER           writes them into the folder
+//!     captures FOLDER           writes them into the folders captures and pieces of this one
 //!     captures --check FOLDER   compares: status 1 where one is missing or different, or another file is there
 //!
-//! `examples/make` builds and runs this for examples/captures.
+//! `examples/make` builds and runs this for examples.
 
 mod driver;
 mod scenes;
@@ -18,10 +19,20 @@ fn bytes_of(words: &[u32]) -> Vec<u8> {
     words.iter().flat_map(|word| word.to_le_bytes()).collect()
 }
 
-fn write(folder: &Path) -> Result<(), String> {
-    for (name, words) in scenes::captures() {
+type Files = Vec<(&'static str, Vec<u32>)>;
+
+/// Each folder with its files.
+fn made() -> [(&'static str, Files); 2] {
+    [
+        ("captures", scenes::captures()),
+        ("pieces", scenes::pieces()),
+    ]
+}
+
+fn write(folder: &Path, made: &Files) -> Result<(), String> {
+    for (name, words) in made {
         let path = folder.join(name);
-        fs::write(&path, bytes_of(&words)).map_err(|e| format!("{}: {e}", path.display()))?;
+        fs::write(&path, bytes_of(words)).map_err(|e| format!("{}: {e}", path.display()))?;
     }
     Ok(())
 }
@@ -43,9 +54,8 @@ fn files(folder: &Path) -> Result<Vec<String>, String> {
     Ok(names)
 }
 
-fn check(folder: &Path) -> Result<(), String> {
-    let made = scenes::captures();
-    for (name, words) in &made {
+fn check(folder: &Path, made: &Files) -> Result<(), String> {
+    for (name, words) in made {
         let path = folder.join(name);
         let there = fs::read(&path).map_err(|e| format!("{}: {e}", path.display()))?;
         if there != bytes_of(words) {
@@ -68,11 +78,19 @@ fn check(folder: &Path) -> Result<(), String> {
     }
 }
 
+type Task = fn(&Path, &Files) -> Result<(), String>;
+
+fn in_each(folder: &str, task: Task) -> Result<(), String> {
+    made()
+        .iter()
+        .try_for_each(|(name, files)| task(&Path::new(folder).join(name), files))
+}
+
 fn main() -> ExitCode {
     let arguments: Vec<String> = env::args().skip(1).collect();
     let done = match arguments.iter().map(String::as_str).collect::<Vec<_>>()[..] {
-        ["--check", folder] => check(Path::new(folder)),
-        [folder] => write(Path::new(folder)),
+        ["--check", folder] => in_each(folder, check),
+        [folder] => in_each(folder, write),
         _ => Err("usage: captures [--check] FOLDER".to_string()),
     };
     match done {

@@ -20,6 +20,23 @@ pub fn captures() -> Vec<(&'static str, Vec<u32>)> {
     ]
 }
 
+/// The parts of a capture as a probe hands it over, cut where a reader that forgets would stumble: between a first parameter and its
+/// header, a part of no words, within the fog's data, and before and after a padding word.
+pub fn pieces() -> Vec<(&'static str, Vec<u32>)> {
+    let list = field();
+    let cuts = [0, 39, 39, 90, 139, 140, list.len()];
+    let names = [
+        "field-1.bin",
+        "field-2.bin",
+        "field-3.bin",
+        "field-4.bin",
+        "field-5.bin",
+        "field-6.bin",
+    ];
+    let part = |(name, cut): (_, &[usize])| (name, list[cut[0]..cut[1]].to_vec());
+    names.into_iter().zip(cuts.windows(2)).map(part).collect()
+}
+
 /// Every register that a frame needs is set to what it begins with, one by one.
 fn boot() -> Vec<u32> {
     let mut gpu = Driver::new(1);

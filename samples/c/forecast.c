@@ -1,6 +1,6 @@
 /*
- * Judges a captured list, shows what it sets, forecasts how short it could be, and draws one fragment with the state that
- * the list leaves.
+ * Judges a captured list, whole and in pieces, shows what it sets, forecasts how short it could be, and draws one fragment with
+ * the state that the list leaves.
  *
  *     forecast FILE        FILE holds the list's words, four bytes a word, the lowest byte first
  *
@@ -58,6 +58,28 @@ static int show_read(struct state *s, const uint32_t *list, size_t length) {
         return 0;
     }
     printf("read: %u writes from %u words\n", (unsigned)pica_value(answer), (unsigned)length);
+    return 1;
+}
+
+/*
+ * The same list as a probe hands it over: in parts, cut anywhere, here of 1, 2, 4, 8 .. words. Nothing is kept of them but the
+ * reader's words. The writes go to a spare state, and the live one is as it was until the close.
+ */
+static int show_pieces(const struct state *read, const uint32_t *list, size_t length) {
+    static struct state live, spare;
+    uint32_t reader[PICA_READER];
+    unsigned parts = 0;
+    if (!answered("open", pica_open(LENT(&live), LENT(&spare), reader))) return 0;
+    for (size_t at = 0, part = 1; at < length; at += part, part *= 2) {
+        if (part > length - at) part = length - at;
+        uint64_t come = pica_feed(LENT(&spare), reader, list + at, part);
+        if (!answered("feed", come)) return 0;
+        printf("%s%u", parts++ ? ", " : "pieces: words come ", (unsigned)pica_value(come));
+    }
+    uint64_t answer = pica_close(LENT(&live), LENT(&spare), reader);
+    printf("%sthe state is %s\n", parts ? "; " : "pieces: ", memcmp(&live, read, sizeof live) == 0 ? "that of reading at once" : "another");
+    if (!answered("close", answer)) return 0;
+    printf("close: %u writes from %u parts\n", (unsigned)pica_value(answer), parts);
     return 1;
 }
 
@@ -150,5 +172,7 @@ int main(int argc, char **argv) {
         return 2;
     }
     size_t words = (size_t)length;
-    return show_read(&s, list, words) && show_fields(&s) && show_forecast(list, words) && show_empty(&s) && show_fragment(&s) ? 0 : 1;
+    int is_read = show_read(&s, list, words), is_fed = show_pieces(&s, list, words);
+    if (!is_read || !is_fed) return 1;
+    return show_fields(&s) && show_forecast(list, words) && show_empty(&s) && show_fragment(&s) ? 0 : 1;
 }

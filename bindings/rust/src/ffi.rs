@@ -1,4 +1,4 @@
-//! The six C functions, and the only `unsafe` code of the crate.
+//! The nine C functions, and the only `unsafe` code of the crate.
 //!
 //! The C functions ask of their caller that each pointer is aligned, that its length is true, and that a buffer that is written
 //! to overlaps no other. Below, every buffer is a Rust reference, which is aligned and has its true length. A buffer that is
@@ -8,6 +8,7 @@
 #![allow(unsafe_code)]
 
 use crate::fragment::{GIVEN_LENGTH, STORED_LENGTH};
+use crate::pieces::READER_LENGTH;
 use crate::{Refusal, CELLS_LENGTH, FIELDS_LENGTH, FOG_LENGTH, LIGHT_LENGTH};
 
 mod c {
@@ -21,6 +22,47 @@ mod c {
             light_length: usize,
             list: *const u32,
             list_length: usize,
+        ) -> u64;
+        pub fn pica_open(
+            cells: *const u32,
+            cells_length: usize,
+            fog: *const u32,
+            fog_length: usize,
+            light: *const u32,
+            light_length: usize,
+            spare_cells: *mut u32,
+            spare_cells_length: usize,
+            spare_fog: *mut u32,
+            spare_fog_length: usize,
+            spare_light: *mut u32,
+            spare_light_length: usize,
+            reader: *mut u32,
+        ) -> u64;
+        pub fn pica_feed(
+            spare_cells: *mut u32,
+            spare_cells_length: usize,
+            spare_fog: *mut u32,
+            spare_fog_length: usize,
+            spare_light: *mut u32,
+            spare_light_length: usize,
+            reader: *mut u32,
+            part: *const u32,
+            part_length: usize,
+        ) -> u64;
+        pub fn pica_close(
+            cells: *mut u32,
+            cells_length: usize,
+            fog: *mut u32,
+            fog_length: usize,
+            light: *mut u32,
+            light_length: usize,
+            spare_cells: *mut u32,
+            spare_cells_length: usize,
+            spare_fog: *mut u32,
+            spare_fog_length: usize,
+            spare_light: *mut u32,
+            spare_light_length: usize,
+            reader: *mut u32,
         ) -> u64;
         pub fn pica_write(
             cells: *mut u32,
@@ -102,6 +144,90 @@ pub fn read(
             light.len(),
             list.as_ptr(),
             list.len(),
+        )
+    })
+}
+
+pub fn open(
+    cells: &[u32; CELLS_LENGTH],
+    fog: &[u32; FOG_LENGTH],
+    light: &[u32; LIGHT_LENGTH],
+    spare_cells: &mut [u32; CELLS_LENGTH],
+    spare_fog: &mut [u32; FOG_LENGTH],
+    spare_light: &mut [u32; LIGHT_LENGTH],
+    reader: &mut [u32; READER_LENGTH],
+) -> Result<u32, Refusal> {
+    // SAFETY: three shared arrays that are only read, and three distinct `&mut` arrays, each passed with its own length; `reader`
+    // is a `&mut` array of exactly the words that are written.
+    apart(unsafe {
+        c::pica_open(
+            cells.as_ptr(),
+            cells.len(),
+            fog.as_ptr(),
+            fog.len(),
+            light.as_ptr(),
+            light.len(),
+            spare_cells.as_mut_ptr(),
+            spare_cells.len(),
+            spare_fog.as_mut_ptr(),
+            spare_fog.len(),
+            spare_light.as_mut_ptr(),
+            spare_light.len(),
+            reader.as_mut_ptr(),
+        )
+    })
+}
+
+pub fn feed(
+    spare_cells: &mut [u32; CELLS_LENGTH],
+    spare_fog: &mut [u32; FOG_LENGTH],
+    spare_light: &mut [u32; LIGHT_LENGTH],
+    reader: &mut [u32; READER_LENGTH],
+    part: &[u32],
+) -> Result<u32, Refusal> {
+    // SAFETY: three distinct `&mut` arrays and a shared slice, each passed with its own length; `reader` is a `&mut` array of
+    // exactly the words that are read and written.
+    apart(unsafe {
+        c::pica_feed(
+            spare_cells.as_mut_ptr(),
+            spare_cells.len(),
+            spare_fog.as_mut_ptr(),
+            spare_fog.len(),
+            spare_light.as_mut_ptr(),
+            spare_light.len(),
+            reader.as_mut_ptr(),
+            part.as_ptr(),
+            part.len(),
+        )
+    })
+}
+
+pub fn close(
+    cells: &mut [u32; CELLS_LENGTH],
+    fog: &mut [u32; FOG_LENGTH],
+    light: &mut [u32; LIGHT_LENGTH],
+    spare_cells: &mut [u32; CELLS_LENGTH],
+    spare_fog: &mut [u32; FOG_LENGTH],
+    spare_light: &mut [u32; LIGHT_LENGTH],
+    reader: &mut [u32; READER_LENGTH],
+) -> Result<u32, Refusal> {
+    // SAFETY: six distinct `&mut` arrays, each passed with its own length; `reader` is a `&mut` array of exactly the words that are
+    // read and written.
+    apart(unsafe {
+        c::pica_close(
+            cells.as_mut_ptr(),
+            cells.len(),
+            fog.as_mut_ptr(),
+            fog.len(),
+            light.as_mut_ptr(),
+            light.len(),
+            spare_cells.as_mut_ptr(),
+            spare_cells.len(),
+            spare_fog.as_mut_ptr(),
+            spare_fog.len(),
+            spare_light.as_mut_ptr(),
+            spare_light.len(),
+            reader.as_mut_ptr(),
         )
     })
 }

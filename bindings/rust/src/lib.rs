@@ -1,11 +1,12 @@
 //! Command lists of the PICA200, the graphics chip of an old handheld, by the proved library Ilgadeuk.
 //!
 //! A list of command words is read into a [`State`], a register file and two lookup tables, or refused by a number and a
-//! place. A state is decoded into [`Settings`] and tells what one fragment leaves in the framebuffer. A list's own writes are what
+//! place; one that arrives in pieces is fed part by part ([`State::open`]). A state is decoded into [`Settings`] and tells what one fragment leaves in the framebuffer. A list's own writes are what
 //! [`writes`] gives, and the other way round [`pack`] turns a run of writes into the shortest list that says it. `include/pica.h`
 //! tells how a list is laid out.
 //!
-//! Any words and any numbers may come in: every call answers or gives a [`Refusal`], and a refused call changes nothing.
+//! Any words and any numbers may come in: every call answers or gives a [`Refusal`], and a refused call changes nothing, but for the
+//! spare state of a list in pieces.
 //!
 //! ```
 //! use pica::State;
@@ -31,6 +32,7 @@ mod flat;
 mod fragment;
 pub mod names;
 mod pack;
+mod pieces;
 mod refusal;
 mod settings;
 mod state;
@@ -39,6 +41,7 @@ mod writes;
 pub use flat::FIELDS_LENGTH;
 pub use fragment::{Given, Outcome, Stored, Verdict};
 pub use pack::{pack, packed, Write, RUN_LENGTH_MOST};
+pub use pieces::Pieces;
 pub use refusal::Refusal;
 pub use settings::*;
 pub use state::{State, CELLS_LENGTH, FOG_LENGTH, LIGHT_LENGTH, LIST_LENGTH_MOST};

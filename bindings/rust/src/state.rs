@@ -3,7 +3,7 @@
 use alloc::{boxed::Box, vec::Vec};
 use core::fmt;
 
-use crate::{ffi, flat, fragment, Given, Outcome, Refusal, Settings, Stored};
+use crate::{ffi, flat, fragment, Given, Outcome, Pieces, Refusal, Settings, Stored};
 
 /// The length of a state's register cells: cell `i` is register `i`.
 pub const CELLS_LENGTH: usize = 768;
@@ -21,9 +21,9 @@ pub const LIST_LENGTH_MOST: usize = 65_536;
 #[derive(Clone, PartialEq, Eq)]
 #[must_use]
 pub struct State {
-    cells: Box<[u32; CELLS_LENGTH]>,
-    fog: Box<[u32; FOG_LENGTH]>,
-    light: Box<[u32; LIGHT_LENGTH]>,
+    pub(crate) cells: Box<[u32; CELLS_LENGTH]>,
+    pub(crate) fog: Box<[u32; FOG_LENGTH]>,
+    pub(crate) light: Box<[u32; LIGHT_LENGTH]>,
 }
 
 impl State {
@@ -108,6 +108,27 @@ impl State {
     pub fn read(&mut self, list: &[u32]) -> Result<usize, Refusal> {
         ffi::read(&mut self.cells, &mut self.fog, &mut self.light, list)
             .map(|writes| writes as usize)
+    }
+
+    /// Opens a list that arrives in pieces: its parts are fed to the [`Pieces`], which is then closed. The writes go to the spare
+    /// state, which first takes this one's values in the bits that count; this state is as it was until the close. Both are borrowed
+    /// while the list is open, so that nobody else writes to them.
+    ///
+    /// ```
+    /// use pica::State;
+    ///
+    /// // what a capture probe hands over: cut between a first parameter and its header, once nothing at all, and before a padding word
+    /// let parts: [&[u32]; 4] = [&[0, 0x000F_00E6, 0x11], &[], &[0x001F_00E8, 0x22], &[0]];
+    /// let (mut live, mut spare) = (State::default(), State::default());
+    /// let mut pieces = live.open(&mut spare);
+    /// let come = parts.map(|part| pieces.feed(part));
+    /// assert_eq!(come, [3, 3, 5, 6]);
+    /// assert_eq!(pieces.close()?, 3); // as `read` of the joined list
+    /// assert_eq!(live.fog()[..2], [0x11, 0x22]);
+    /// # Ok::<(), pica::Refusal>(())
+    /// ```
+    pub fn open<'a>(&'a mut self, spare: &'a mut State) -> Pieces<'a> {
+        Pieces::new(self, spare)
     }
 
     /// Applies a single write. Bit 0 of the mask stands for the lowest byte of the value.
