@@ -8,6 +8,7 @@ ghost use Rattle.words.specs.Writes.{writing, faultOf};
 ghost use Rattle.registers.specs.State.{st, Lengths};
 ghost use Rattle.registers.specs.Tables.{LookupTables};
 ghost use Rattle.registers.specs.Applied.{applyAll};
+ghost use Rattle.commands.specs.Run.{runFrom, runWith};
 ghost use Rattle.pieces.specs.Leads.{Leads};
 ghost use Rattle.pieces.specs.Progress.{firstOf, headed, sound, next, makes, after, made};
 use crate::Progress;
@@ -131,6 +132,84 @@ fn take_word(
     q
 }
 
+// Writes to ids from `h.id` on, one for each of the `h.count` values that stand in `list` from `from` on.
+fn put_run(
+    cells: &mut [u32],
+    fog: &mut [u32],
+    light: &mut [u32],
+    slots: &[u8; 256],
+    held: &[u32; 132],
+    h: Header,
+    list: &[u32],
+    from: usize,
+)
+    requires { ⌜ Lengths (now cells) (now fog) (now light) × LookupTables (now slots) (now held) ⌝ }
+    requires { ⌜ (h .id < 0x20000) × (h .count < 256) × (h .step ≤ 1) × (from + h .count ≤ length (now list)) ⌝ }
+    ensures { λ _. ⌜
+        st (now (cells .exit)) (now (fog .exit)) (now (light .exit))
+        ≡ applyAll (st (now (cells .entry)) (now (fog .entry)) (now (light .entry)))
+        (runFrom (now (list .entry)) from (h .count) (h .id) (h .mask) (h .step))
+        ⌝ }
+{
+    let step = h.step;
+    let mut id = h.id;
+    if step == 0 {
+        if (0xE8 <= id) & (id <= 0xEF) {
+            ports::upload_fog(cells, fog, list, from, h.count);
+            return;
+        }
+        if (0x1C8 <= id) & (id <= 0x1CF) {
+            ports::upload_light(cells, light, list, from, h.count);
+            return;
+        }
+    }
+    let mask = h.mask;
+    let bytes = ports::spread_mask(mask);
+    let mut left = h.count;
+    let mut j = from;
+    while 0 < left {
+        registers::put_one(cells, fog, light, slots, held, id, bytes, list[j]);
+        j += 1;
+        id += step;
+        left -= 1;
+    }
+}
+
+// The writes of a command with the header `h`: its first value is `first`, the others stand in `list` from `from` on. What `commands` has for
+// this is made for a list that is read at once: called from two places it would no longer be put in line in either.
+fn put_command(
+    cells: &mut [u32],
+    fog: &mut [u32],
+    light: &mut [u32],
+    slots: &[u8; 256],
+    held: &[u32; 132],
+    h: Header,
+    first: u32,
+    list: &[u32],
+    from: usize,
+)
+    requires { ⌜ Lengths (now cells) (now fog) (now light) × LookupTables (now slots) (now held) ⌝ }
+    requires { ⌜ (h .id < 0x10000) × (h .count < 256) × (h .step ≤ 1) × (from + h .count ≤ length (now list)) ⌝ }
+    ensures { λ _. ⌜
+        st (now (cells .exit)) (now (fog .exit)) (now (light .exit))
+        ≡ applyAll (st (now (cells .entry)) (now (fog .entry)) (now (light .entry))) (runWith h first (now (list .entry)) from)
+        ⌝ }
+{
+    let mask = h.mask;
+    let bytes = ports::spread_mask(mask);
+    registers::put_one(cells, fog, light, slots, held, h.id, bytes, first);
+    if h.count == 0 {
+        return;
+    }
+    let rest = Header {
+        id: h.id + h.step,
+        mask,
+        count: h.count,
+        step: h.step,
+    };
+    put_run(cells, fog, light, slots, held, rest, list, from);
+}
+
 // How far a step led within a part.
 struct Reached {
     progress: Progress,
@@ -199,7 +278,7 @@ fn take_commands(
         if !(here & commands::is_clear(h.id, last, h.mask)) {
             break 'commands;
         }
-        commands::apply_run(cells, fog, light, slots, held, h, part[i], part, i + 2);
+        put_command(cells, fog, light, slots, held, h, part[i], part, i + 2);
         place = come;
         come += (h.count + 3) / 2 * 2;
         first = part[i];
@@ -233,12 +312,12 @@ fn least(a: u32, b: u32) -> u32
     if a < b { a } else { b }
 }
 
-// How many extra parameters can be taken in one run: those that are here and below the limit, at most 256.
+// How many extra parameters can be taken in one run: those that are here and below the limit, at most 255.
 fn run_length(left: u32, come: u32, here: usize) -> u32
     requires { ⌜ (0 < left) × (come ≤ 65535) × (0 < here) ⌝ }
-    ensures { λ r. ⌜ (0 < r) × (r ≤ left) × (come + r ≤ 65536) × (r ≤ here) × (r ≤ 256) ⌝ }
+    ensures { λ r. ⌜ (0 < r) × (r ≤ left) × (come + r ≤ 65536) × (r ≤ here) × (r < 256) ⌝ }
 {
-    let most = least(least(left, 65536 - come), 256);
+    let most = least(least(left, 65536 - come), 255);
     if here < most as usize {
         here as u32
     } else {
@@ -246,7 +325,7 @@ fn run_length(left: u32, come: u32, here: usize) -> u32
     }
 }
 
-// The extra parameters that are here, in one run where none of their writes can be at fault; else the first of them.
+// The extra parameters that are here, in one run, if none of their writes can be at fault.
 fn take_extras(
     p: Progress,
     cells: &mut [u32],
@@ -259,28 +338,27 @@ fn take_extras(
 ) -> Reached
     requires { ⌜ Lengths (now cells) (now fog) (now light) × LookupTables (now slots) (now held) ⌝ }
     requires { ⌜ (at < length (now part)) × (0 < p .left) ⌝ }
-    ensures further { λ r. ⌜ at < r .at ⌝ }
-    ensures leads { λ r. ⌜
+    ensures { λ r. ⌜
         Leads (now (part .entry)) p at (st (now (cells .entry)) (now (fog .entry)) (now (light .entry)))
         (r .progress) (r .at) (st (now (cells .exit)) (now (fog .exit)) (now (light .exit)))
         ⌝ }
 {
     if !((p.fault == 0) & (p.step <= 1) & (p.id <= 0xFFFF) & (p.come <= 65535)) {
-        return take_one(p, cells, fog, light, slots, held, part, at);
+        return Reached { progress: p, at };
     }
     let n = run_length(p.left, p.come, part.len() - at);
     let first = p.id + p.step;
     let last = commands::last_id(first, n - 1, p.step);
     if !commands::is_clear(first, last, p.mask) {
-        return take_one(p, cells, fog, light, slots, held, part, at);
+        return Reached { progress: p, at };
     }
     let h = Header {
         id: first,
         mask: p.mask,
-        count: n - 1,
+        count: n,
         step: p.step,
     };
-    commands::apply_run(cells, fog, light, slots, held, h, part[at], part, at + 1);
+    put_run(cells, fog, light, slots, held, h, part, at);
     let mut q = p;
     q.come = p.come + n;
     q.id = last;
@@ -291,7 +369,34 @@ fn take_extras(
     }
 }
 
-// Some words from `at` on: commands, extra parameters, or one word.
+// Some words from `at` on at once, commands or extra parameters; or none.
+fn take_several(
+    p: Progress,
+    cells: &mut [u32],
+    fog: &mut [u32],
+    light: &mut [u32],
+    slots: &[u8; 256],
+    held: &[u32; 132],
+    part: &[u32],
+    at: usize,
+) -> Reached
+    requires { ⌜ Lengths (now cells) (now fog) (now light) × LookupTables (now slots) (now held) ⌝ }
+    requires { ⌜ at < length (now part) ⌝ }
+    ensures { λ r. ⌜
+        Leads (now (part .entry)) p at (st (now (cells .entry)) (now (fog .entry)) (now (light .entry)))
+        (r .progress) (r .at) (st (now (cells .exit)) (now (fog .exit)) (now (light .exit)))
+        ⌝ }
+{
+    if 0 < p.left {
+        return take_extras(p, cells, fog, light, slots, held, part, at);
+    }
+    if (p.left == 0) & (p.pad == 0) & (p.begun == 0) & (p.fault == 0) {
+        return take_commands(p, cells, fog, light, slots, held, part, at);
+    }
+    Reached { progress: p, at }
+}
+
+// Some words from `at` on, and one at least.
 fn take_some(
     p: Progress,
     cells: &mut [u32],
@@ -310,18 +415,12 @@ fn take_some(
         (r .progress) (r .at) (st (now (cells .exit)) (now (fog .exit)) (now (light .exit)))
         ⌝ }
 {
-    if (p.left == 0) & (p.pad == 0) & (p.begun == 0) & (p.fault == 0) {
-        let r = take_commands(p, cells, fog, light, slots, held, part, at);
-        if at < r.at {
-            return r;
-        }
-        let reached = r.progress;
-        return take_one(reached, cells, fog, light, slots, held, part, r.at);
+    let r = take_several(p, cells, fog, light, slots, held, part, at);
+    if at < r.at {
+        return r;
     }
-    if 0 < p.left {
-        return take_extras(p, cells, fog, light, slots, held, part, at);
-    }
-    take_one(p, cells, fog, light, slots, held, part, at)
+    let reached = r.progress;
+    take_one(reached, cells, fog, light, slots, held, part, r.at)
 }
 
 // A part, from its first word to its last.

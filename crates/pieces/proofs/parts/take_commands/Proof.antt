@@ -132,20 +132,20 @@ add-here c =
 is-clear-requires : tie.Need-is-clear-requires Inv-commands μ-commands
 is-clear-requires c κs = search needs
 
-mul-apply-run : tie.Need-mul-apply-run Inv-commands μ-commands
-mul-apply-run c = search needs
+mul-put-command : tie.Need-mul-put-command Inv-commands μ-commands
+mul-put-command c = search needs
 
-shared-slice-read-apply-run : tie.Need-shared-slice-read-apply-run Inv-commands μ-commands
-shared-slice-read-apply-run c = search needs
+shared-slice-read-put-command : tie.Need-shared-slice-read-put-command Inv-commands μ-commands
+shared-slice-read-put-command c = search needs
 
-add-apply-run : tie.Need-add-apply-run Inv-commands μ-commands
-add-apply-run c =
+add-put-command : tie.Need-add-put-command Inv-commands μ-commands
+add-put-command c =
     let at-commands-test = c .before .before .before .before .before .before .before .before .before .before in
     let at-start = at-commands-test .before .before .before .before .before .before in
     omega (arith, at-start .good, at-commands-test .commands-test .taken)
 
-apply-run-requires : tie.Need-apply-run-requires Inv-commands μ-commands
-apply-run-requires c κs =
+put-command-requires : tie.Need-put-command-requires Inv-commands μ-commands
+put-command-requires c κs =
     let at-if1 = c .before .before .before .before in
     let at-parts = at-if1 .before .before .before .before in
     let at-commands-test = at-parts .before .before in
@@ -156,7 +156,7 @@ apply-run-requires c κs =
     let t = at-commands-test .commands-test .taken in
     let o = at-commands .commands .inv in (
       ((o .0, o .1, o .2), at-start .pre .0 .1),
-      (omega (arith, h .0), omega (arith, h .2), omega (arith, h .3), omega (arith, h .2, f .0, t), omega arith),
+      (omega (arith, h .0), omega (arith, h .2), omega (arith, h .3), omega (arith, h .2, f .0, t)),
     )
 
 add-come : tie.Need-add-come Inv-commands μ-commands
@@ -183,8 +183,8 @@ shared-slice-read-first c = search needs
 
 add-wrapping-add-u32 : tie.Need-add-wrapping-add-u32 Inv-commands μ-commands
 add-wrapping-add-u32 c =
-    let at-apply-run = c .before .before .before .before .before .before .before .before .before in
-    let at-parts = at-apply-run .before .before .before .before .before .before .before .before .before in
+    let at-put-command = c .before .before .before .before .before .before .before .before .before in
+    let at-parts = at-put-command .before .before .before .before .before .before .before .before .before in
     omega (arith, at-parts .parts .ensures .2)
 
 wrapping-add-u32-requires : tie.Need-wrapping-add-u32-requires Inv-commands μ-commands
@@ -192,8 +192,8 @@ wrapping-add-u32-requires c κs = search needs
 
 add-i : tie.Need-add-i Inv-commands μ-commands
 add-i c =
-    let at-apply-run = c .before .before .before .before .before .before .before .before .before .before in
-    let at-words-taken = at-apply-run .before .before .before .before .before .before .before .before in
+    let at-put-command = c .before .before .before .before .before .before .before .before .before .before in
+    let at-words-taken = at-put-command .before .before .before .before .before .before .before .before in
     let at-parts = at-words-taken .before in
     let at-commands-test = at-parts .before .before in
     let at-start = at-commands-test .before .before .before .before .before .before in
@@ -201,8 +201,8 @@ add-i c =
 
 commands-less : tie.Need-commands-less Inv-commands μ-commands
 commands-less c =
-    let at-apply-run = c .before .before .before .before .before .before .before .before .before .before in
-    let at-if1 = at-apply-run .before .before .before .before .before in
+    let at-put-command = c .before .before .before .before .before .before .before .before .before .before in
+    let at-if1 = at-put-command .before .before .before .before .before in
     let at-words-taken = at-if1 .before .before .before in
     let at-parts = at-words-taken .before in
     let at-commands-test = at-parts .before .before in
@@ -211,8 +211,8 @@ commands-less c =
 
 commands-again : tie.Need-commands-again Inv-commands μ-commands
 commands-again c =
-    let at-apply-run = c .before .before .before .before .before .before .before .before .before .before in
-    let at-if1 = at-apply-run .before .before .before .before .before in
+    let at-put-command = c .before .before .before .before .before .before .before .before .before .before in
+    let at-if1 = at-put-command .before .before .before .before .before in
     let at-last-id = at-if1 .before .before in
     let at-words-taken = at-last-id .before in
     let at-parts = at-words-taken .before in
@@ -226,7 +226,7 @@ commands-again c =
     let h = at-parts .parts .ensures in
     let f = facts at-if1 in
     let b = at-start .pre .1 in
-    let w = at-apply-run .apply-run in
+    let w = at-put-command .put-command in
     let even : (countOf x + 3) / 2 * 2 ≡ wordsOf x = omega arith in
     let here : o .i + wordsOf x ≤ length l = omega (arith, f .0, at-commands-test .commands-test .taken) in
     let p = so-far (a .p) (o .come) (o .place) (o .first) (o .id) (o .mask) (o .step) (o .writes) in
@@ -290,10 +290,10 @@ take-commands-spec =
     cast-here
     add-here
     is-clear-requires
-    mul-apply-run
-    shared-slice-read-apply-run
-    add-apply-run
-    apply-run-requires
+    mul-put-command
+    shared-slice-read-put-command
+    add-put-command
+    put-command-requires
     add-come
     mul-come
     add-come-2

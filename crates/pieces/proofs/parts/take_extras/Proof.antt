@@ -4,7 +4,7 @@ use Prim.Native.Nat.{_≤_}
 use native.Mathlib.Omega.{arith}
 use borrow.Author.Tests.{not-false}
 use Rattle.registers.specs.State.{st}
-use Rattle.pieces.proofs.Ways.{run-way, leads-by}
+use Rattle.pieces.proofs.Ways.{run-way, leads-by, leads-none}
 use Rattle.pieces.proofs.Choices.{run-facts}
 use borrow.Author.Needs.{needs}
 use Rattle.pieces.proofs.parts.take_extras.Statement.{statement}
@@ -18,20 +18,10 @@ plain c =
     let p = c .before .before .before .before .before .before .before .before .before .args .p in
     run-facts (p .fault) (p .step) (p .id) (p .come) (not-false _ (c .if1 .left))
 
-take-one-requires : tie.Need-take-one-requires
-take-one-requires c κs = search needs
-
-same-length : tie.Need-same-length
-same-length c = search needs
-
-same-length-2 : tie.Need-same-length-2
-same-length-2 c = search needs
-
-same-length-3 : tie.Need-same-length-3
-same-length-3 c = search needs
-
 returns : tie.Need-returns
-returns c = search needs
+returns c =
+    let at-start = c .before .before .before .before .before .before .before .before .before in
+    leads-none (at-start .args .part .now) (at-start .args .p) (at-start .args .at) _ (omega (arith, at-start .pre .1 .0))
 
 sub-run-length : tie.Need-sub-run-length
 sub-run-length c = search needs
@@ -58,50 +48,19 @@ last-id-requires c κs =
 is-clear-requires : tie.Need-is-clear-requires
 is-clear-requires c κs = search needs
 
-take-one-requires-2 : tie.Need-take-one-requires-2
-take-one-requires-2 c κs =
-    let at-run-length = c .before .before .before .before .before .before .before in
-    let at-start = at-run-length .before .before .before .before .before .before .before .before .before .before in
-    (at-start .pre .0, at-start .pre .1 .0)
-
-same-length-4 : tie.Need-same-length-4
-same-length-4 c = search needs
-
-same-length-5 : tie.Need-same-length-5
-same-length-5 c = search needs
-
-same-length-6 : tie.Need-same-length-6
-same-length-6 c = search needs
-
 returns-2 : tie.Need-returns-2
-returns-2 c = search needs
+returns-2 c =
+    let at-start = c .before .before .before .before .before .before .before .before .before .before .before .before .before .before in
+    leads-none (at-start .args .part .now) (at-start .args .p) (at-start .args .at) _ (omega (arith, at-start .pre .1 .0))
 
-sub-apply-run : tie.Need-sub-apply-run
-sub-apply-run c = search needs
-
-mul-apply-run : tie.Need-mul-apply-run
-mul-apply-run c =
+put-run-requires : tie.Need-put-run-requires
+put-run-requires c κs =
     let at-run-length = c .before .before .before .before .before .before .before in
-    let at-start = at-run-length .before .before .before .before .before .before .before .before .before .before in
-    omega (arith, at-start .good, at-start .pre .1 .0)
-
-shared-slice-read-apply-run : tie.Need-shared-slice-read-apply-run
-shared-slice-read-apply-run c = search needs
-
-add-apply-run : tie.Need-add-apply-run
-add-apply-run c =
-    let at-run-length = c .before .before .before .before .before .before .before .before in
-    let at-start = at-run-length .before .before .before .before .before .before .before .before .before .before in
-    omega (arith, at-start .good, at-start .pre .1 .0)
-
-apply-run-requires : tie.Need-apply-run-requires
-apply-run-requires c κs =
-    let at-run-length = c .before .before .before .before .before .before .before .before in
     let at-if1 = at-run-length .before in
     let at-start = at-if1 .before .before .before .before .before .before .before .before .before in
     let n = at-run-length .run-length .ensures in
     let f = plain at-if1 in
-    (at-start .pre .0, (omega (arith, f .1, f .2), omega (arith, n .4), f .1, omega (arith, n .0, n .3, at-start .pre .1 .0), omega arith))
+    (at-start .pre .0, (omega (arith, f .1, f .2), n .4, f .1, omega (arith, n .3, at-start .pre .1 .0)))
 
 add-q : tie.Need-add-q
 add-q c = search needs
@@ -109,29 +68,28 @@ add-q c = search needs
 sub-q : tie.Need-sub-q
 sub-q c = search needs
 
-cast-t29 : tie.Need-cast-t29
-cast-t29 c = search needs
+cast-t23 : tie.Need-cast-t23
+cast-t23 c = search needs
 
-add-t28 : tie.Need-add-t28
-add-t28 c =
-    let at-apply-run = c .before .before .before .before .before .before .before .before in
-    let at-run-length = at-apply-run .before .before .before .before .before .before .before .before .before in
+add-t22 : tie.Need-add-t22
+add-t22 c =
+    let at-run-length = c .before .before .before .before .before .before .before .before .before .before .before .before .before .before .before .before in
     let at-start = at-run-length .before .before .before .before .before .before .before .before .before .before in
     omega (arith, at-start .good, at-start .pre .1 .0, at-run-length .run-length .ensures .4)
 
-same-length-7 : tie.Need-same-length-7
-same-length-7 c = search needs
+same-length : tie.Need-same-length
+same-length c = search needs
 
-same-length-8 : tie.Need-same-length-8
-same-length-8 c = search needs
+same-length-2 : tie.Need-same-length-2
+same-length-2 c = search needs
 
-same-length-9 : tie.Need-same-length-9
-same-length-9 c = search needs
+same-length-3 : tie.Need-same-length-3
+same-length-3 c = search needs
 
 returns-3 : tie.Need-returns-3
 returns-3 c =
-    let at-apply-run = c .before .before .before .before .before .before .before .before in
-    let at-if2 = at-apply-run .before .before .before .before .before in
+    let at-put-run = c .before .before .before .before .before .before .before .before in
+    let at-if2 = at-put-run .before .before .before .before in
     let at-is-clear = at-if2 .before in
     let at-last-id = at-is-clear .before in
     let at-run-length = at-last-id .before .before in
@@ -143,22 +101,16 @@ returns-3 c =
     let f = plain at-if1 in
     let e = at-last-id .last-id .ensures in
     let b = at-start .pre .1 in
-    let sure = sym (at-is-clear .is-clear .ensures) ∙ not-false _ (at-if2 .if2 .left) in (
-      omega (arith, n .0),
-      rw e
-          (leads-by l (a .p) _ (a .at) _ (st (a .cells .now) (a .fog .now) (a .light .now)) _ _
-          (run-way l _ (a .at) (a .p) (n .0) (omega (arith, n .3, b .0)) (n .2) (n .1) (f .0) (f .1) (f .2) (n .4) (rw (← e) sure))
-          (omega (arith, n .0)) (omega (arith, n .3, b .0)) (at-apply-run .apply-run .ensures)),
-    )
+    let sure = sym (at-is-clear .is-clear .ensures) ∙ not-false _ (at-if2 .if2 .left) in
+    rw e
+    (leads-by l (a .p) _ (a .at) _ (st (a .cells .now) (a .fog .now) (a .light .now)) _ _
+    (run-way l _ (a .at) (a .p) (n .0) (omega (arith, n .3, b .0)) (n .2) (n .1) (f .0) (f .1) (f .2) (omega (arith, n .4)) (rw (← e) sure))
+    (omega (arith, n .0)) (omega (arith, n .3, b .0)) (at-put-run .put-run .ensures))
 
 pub take-extras-spec : {M : Type 1} → statement M
 take-extras-spec =
     tie.close
     (tie.spec
-    take-one-requires
-    same-length
-    same-length-2
-    same-length-3
     returns
     sub-run-length
     run-length-requires
@@ -166,21 +118,13 @@ take-extras-spec =
     sub-last-id
     last-id-requires
     is-clear-requires
-    take-one-requires-2
-    same-length-4
-    same-length-5
-    same-length-6
     returns-2
-    sub-apply-run
-    mul-apply-run
-    shared-slice-read-apply-run
-    add-apply-run
-    apply-run-requires
+    put-run-requires
     add-q
     sub-q
-    cast-t29
-    add-t28
-    same-length-7
-    same-length-8
-    same-length-9
+    cast-t23
+    add-t22
+    same-length
+    same-length-2
+    same-length-3
     returns-3)
