@@ -154,10 +154,10 @@ pub read-call : {s t : State} {l : List ℕ} {a : ListVerdict} → ReadCall s l 
 read-call c = rw (← c .state, ← c .list, ← c .after) (c .promise)
 
 pub open-call : {live spare t : State} {a : Going} → OpenCall live spare a t → (a ≡ opening live spare) × (t ≡ openedSpare live spare)
-open-call c = rw (← c .live, ← c .spare, ← c .after) (c .promise)
+open-call c = let q = rw (c .live, c .spare, c .after) at (c .promise) in (q .0, q .1 .0)
 
 pub feed-call : {p : Progress} {s t : State} {l : List ℕ} {a : Going} → FeedCall p s l a t → (a ≡ feeding p s l) × (t ≡ fedSpare p s l)
-feed-call c = rw (← c .progress, ← c .state, ← c .list, ← c .after) (c .promise)
+feed-call c = let q = rw (c .progress, c .state, c .list, c .after) at (c .promise) in (q .0, q .1 .0)
 
 pub close-call : {p : Progress} {live spare live′ spare′ : State} {a : Closed} → CloseCall p live spare a live′ spare′
     → (read-told (a .verdict) ≡ closeAnswer p live spare) × (a .progress ≡ closeProgress p live spare)

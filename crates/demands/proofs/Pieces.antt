@@ -7,7 +7,7 @@ use Prim.Native.Nat.{ℕ, _+_, _≤_, _<_}
 use native.Mathlib.Decide.{decLt}
 use native.Mathlib.Omega.{arith}
 use lib.ListN.{length}
-use borrow.Author.Tests.{le-leb, lt-leb, lt-ltb, le-ltb}
+use borrow.Author.Tests.{le-leb, lt-leb, lt-ltb}
 use Rattle.numbers.specs.Answer.{Answer, answered, refused}
 use Rattle.numbers.proofs.Tests.{and-true}
 use Rattle.words.specs.Commands.{expansion}
@@ -27,7 +27,7 @@ use Rattle.pieces.specs.declared.Going.the-variants.{Come}
 use Rattle.pieces.specs.declared.Closed.{Closed}
 use Rattle.pieces.proofs.Steps.{after-none, after-append, made-none, made-append}
 use Rattle.pieces.proofs.Closing.{closes-long, whole-list}
-use Rattle.pieces.proofs.Counts.{come-held, counted-same}
+use Rattle.pieces.proofs.Counts.{held-twice, come-held, counted-same}
 use Rattle.pieces.proofs.Calls.{open-wrong, open-right, feed-wrong, feed-right, close-refused, close-accepted}
 use Rattle.demands.proofs.Alike.{Alike}
 use Rattle.demands.proofs.NeverRead.{never-read}
@@ -101,10 +101,6 @@ fed-call {p} {q} {s} {t} {l} c = go (sized s) refl (feed-call c)
     go true e k =
         let r = feed-right p s l e in (e, come-one q (counted (after p l)) (k .0 ∙ sym (r .0)), k .1 ∙ sym (r .1))
     go false e k = come-no-refusal q (k .0 ∙ sym (feed-wrong p s l e .0))
-
-held-twice : (n : ℕ) → Dec (65536 < n) → heldAt n ≡ heldAt (heldAt n)
-held-twice n (yes h) = rw (lt-ltb 65536 n h)
-held-twice n (no h) = let t = le-ltb 65536 n (omega arith) in rw (t, t)
 
 held-after : (p : Progress) (l : List ℕ) → p .come ≡ heldAt (p .come) → after p l .come ≡ heldAt (after p l .come)
 held-after p l h = rw (come-held p l h) (held-twice (p .come + length l) (decLt 65536 (p .come + length l)))

@@ -133,8 +133,7 @@ module _ {live s t live′ spare′ : State} {vs us : List ℕ} {r : ℕ} (ws : 
       let x = close-left k in
       let p = e .0 ∙ ap (λ (y : Progress). after y (joined ls)) (o .progress) in
       let u = e .1 ∙ ap (λ (y : Progress). applyAll s (made y (joined ls))) (o .progress) in
-      by-length live s (joined ls) (o .live-sized) (o .spare-sized) (o .alike) (decLt 65536 (length (joined ls))) _ _ live′ spare′
-      (
+      by-length live s (joined ls) (o .live-sized) (o .spare-sized) (o .alike) (decLt 65536 (length (joined ls))) _ _ live′ spare′ (
         both (λ y z. closeAnswer y live z) p u,
         both (λ y z. closeProgress y live z) p u,
         x .2 ∙ both (λ y z. closedLive y live z) p u,

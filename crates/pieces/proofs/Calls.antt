@@ -1,14 +1,15 @@
 -- What each call answers and leaves, by the tests that code makes. Assumes nothing.
 use mathlib.Core.Path.{_≡_, refl}
-use mathlib.Core.Bool.{true, false}
+use mathlib.Core.Bool.{Bool, true, false}
 use mathlib.Core.List.{List}
 use Prim.Native.Nat.{ℕ}
+use Rattle.numbers.specs.Pick.{pick}
 use Rattle.numbers.specs.Answer.{answered, refused}
 use Rattle.registers.specs.State.{State, sized}
 use Rattle.registers.specs.Applied.{applyAll}
-use Rattle.pieces.specs.Progress.{fresh, after, made, counted, closing}
+use Rattle.pieces.specs.Progress.{fresh, after, made, heldAt, counted, closing}
 use Rattle.copies.specs.Copy.{taken}
-use Rattle.pieces.specs.Pieces.{wrongLength, bothSized, opening, openedSpare, feeding, fedSpare}
+use Rattle.pieces.specs.Pieces.{told, wrongLength, bothSized, opening, openAnswer, openedSpare, feeding, feedAnswer, fedSpare}
 use Rattle.pieces.specs.Pieces.{closeAnswer, closeProgress, closedLive, closedSpare}
 use Rattle.pieces.specs.declared.Progress.{Progress}
 use Rattle.pieces.specs.declared.Going.the-variants.{Come}
@@ -23,6 +24,23 @@ module _ (p : Progress) (s : State) (l : List ℕ) where
   pub feed-right : sized s ≡ true → (Come (counted (after p l)) ≡ feeding p s l) × (applyAll s (made p l) ≡ fedSpare p s l)
   unfolding feeding fedSpare
   feed-right e = rw e (refl, refl)
+
+-- WHAT OPENING AND FEEDING TELL
+pub open-told : (live spare : State) → told (opening live spare) ≡ openAnswer live spare
+unfolding opening openAnswer
+open-told live spare = go (bothSized live spare)
+  where
+    go : (b : Bool) → told (pick b (Come fresh) wrongLength) ≡ pick b (answered 0) (refused 6 0)
+    go true = refl
+    go false = refl
+
+pub feed-told : (p : Progress) (s : State) (l : List ℕ) → told (feeding p s l) ≡ feedAnswer p s l
+unfolding feeding feedAnswer
+feed-told p s l = go (sized s)
+  where
+    go : (b : Bool) → told (pick b (Come (counted (after p l))) wrongLength) ≡ pick b (answered (heldAt (after p l .come))) (refused 6 0)
+    go true = refl
+    go false = refl
 
 module _ (live spare : State) where
   -- both states have their lengths, or one hasn't

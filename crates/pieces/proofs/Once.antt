@@ -32,14 +32,14 @@ pub open-settled : (κs : Lfts 6) (a : Dens κs opens-kinds.ps)
 open-settled κs a =
     let live = st (now (a .0)) (now (a .1 .0)) (now (a .1 .1 .0)) in
     let spare = st (now (a .1 .1 .1 .0)) (now (a .1 .1 .1 .1 .0)) (now (a .1 .1 .1 .1 .1 .0)) in
-    settled _ _ (λ r. r) (λ r r′ e. e) (opening live spare) (openedSpare live spare) (λ r e p. p)
+    settled _ _ (λ r. r) (λ r r′ e. e) (opening live spare) (openedSpare live spare) (λ r e p. (p .0, p .1 .0))
 
 pub feed-settled : (κs : Lfts 4) (a : Dens κs feed-kinds.ps)
     → Settles (λ e. st (now (e .1 .0)) (now (e .1 .1 .0)) (now (e .1 .1 .1 .0))) (feed.Post κs a)
 feed-settled κs a =
     let spare = st (now (a .1 .0)) (now (a .1 .1 .0)) (now (a .1 .1 .1 .0)) in
     let l = now (a .1 .1 .1 .1 .0) in
-    settled _ _ (λ r. r) (λ r r′ e. e) (feeding (a .0) spare l) (fedSpare (a .0) spare l) (λ r e p. p)
+    settled _ _ (λ r. r) (λ r r′ e. e) (feeding (a .0) spare l) (fedSpare (a .0) spare l) (λ r e p. (p .0, p .1 .0))
 
 -- a close is its verdict and its progress
 made : ListVerdict → Progress → Closed

@@ -10,7 +10,7 @@ use Rattle.registers.specs.State.{State, sized}
 use Rattle.registers.specs.Applied.{applyAll}
 use Rattle.copies.specs.Copy.{taken}
 use Rattle.reader.specs.Read.{ifAnswered}
-use Rattle.pieces.specs.Progress.{fresh, after, made, counted, closing}
+use Rattle.pieces.specs.Progress.{fresh, after, made, heldAt, counted, closing}
 use Rattle.pieces.specs.declared.Progress.{Progress}
 use Rattle.pieces.specs.declared.Going.{Going}
 use Rattle.pieces.specs.declared.Going.the-variants.{Come, Refused}
@@ -30,12 +30,20 @@ bothSized live spare = sized live && sized spare
 unfoldable pub opening : State → State → Going
 opening live spare = pick (bothSized live spare) (Come fresh) wrongLength
 
+-- which tells 0
+unfoldable pub openAnswer : State → State → Answer
+openAnswer live spare = pick (bothSized live spare) (answered 0) (refused 6 0)
+
 unfoldable pub openedSpare : State → State → State
 openedSpare live spare = pick (bothSized live spare) (taken spare live) spare
 
 -- FEEDING a part: the progress after its words, and the spare state after the writes that they make
 unfoldable pub feeding : Progress → State → List ℕ → Going
 feeding p spare part = pick (sized spare) (Come (counted (after p part))) wrongLength
+
+-- which tells how many words have come, held at 65,537
+unfoldable pub feedAnswer : Progress → State → List ℕ → Answer
+feedAnswer p spare part = pick (sized spare) (answered (heldAt (after p part .come))) (refused 6 0)
 
 unfoldable pub fedSpare : Progress → State → List ℕ → State
 fedSpare p spare part = pick (sized spare) (applyAll spare (made p part)) spare

@@ -5,7 +5,8 @@ ghost use Rattle.numbers.specs.Answer.{refused};
 ghost use Rattle.registers.specs.State.{st};
 ghost use Rattle.reader.specs.Read.{told};
 ghost use Rattle.pieces.specs.Progress.{fresh, counted, closing, faultNumber};
-ghost use Rattle.pieces.specs.Pieces.{opening, openedSpare, feeding, fedSpare};
+ghost use Rattle.pieces.specs.Pieces as going;
+ghost use Rattle.pieces.specs.Pieces.{opening, openAnswer, openedSpare, feeding, feedAnswer, fedSpare};
 ghost use Rattle.pieces.specs.Pieces.{closeAnswer, closeProgress, closedLive, closedSpare};
 use reader::ListVerdict;
 use words::Refusal;
@@ -79,6 +80,11 @@ pub fn open(
         ≡ openedSpare (st (now (cells .entry)) (now (fog .entry)) (now (light .entry)))
         (st (now («spare_cells» .entry)) (now («spare_fog» .entry)) (now («spare_light» .entry)))
         ⌝ }
+    ensures numbers { λ r. ⌜
+        going.told r
+        ≡ openAnswer (st (now (cells .entry)) (now (fog .entry)) (now (light .entry)))
+        (st (now («spare_cells» .entry)) (now («spare_fog» .entry)) (now («spare_light» .entry)))
+        ⌝ }
 {
     if !registers::is_sized(cells, fog, light) {
         return Going::Refused(Refusal {
@@ -122,6 +128,9 @@ pub fn feed(
     ensures state { λ _. ⌜
         st (now (cells .exit)) (now (fog .exit)) (now (light .exit))
         ≡ fedSpare p (st (now (cells .entry)) (now (fog .entry)) (now (light .entry))) (now (part .entry))
+        ⌝ }
+    ensures numbers { λ r. ⌜
+        going.told r ≡ feedAnswer p (st (now (cells .entry)) (now (fog .entry)) (now (light .entry))) (now (part .entry))
         ⌝ }
 {
     if !registers::is_sized(cells, fog, light) {

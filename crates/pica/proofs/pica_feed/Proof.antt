@@ -25,7 +25,7 @@ returns : tie.Need-returns
 returns c =
     let r = c .before .before .before .before .before .before .before .before .feed .ensures in
     let p = c .before .before .before .before .before .before .before .before .before .before .before .before .progress-of .ensures in
-    let t = c .told-going .ensures in (rw (t .0, r .0, p), (rw (t .1, r .0, p), rw (← p) (r .1)))
+    let t = c .told-going .ensures in (rw (t .0, r .0, p), (rw (t .1, r .0, p), rw (← p) (r .1 .0)))
 
 pub pica-feed-spec : {M : Type 1} → statement M
 pica-feed-spec =

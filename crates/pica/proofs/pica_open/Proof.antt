@@ -21,7 +21,7 @@ same-length-3 c = search needs
 returns : tie.Need-returns
 returns c =
     let r = c .before .before .before .before .before .before .before .before .«open» .ensures in
-    let t = c .told-going .ensures in (rw (t .0, r .0), (rw (t .1, r .0), r .1))
+    let t = c .told-going .ensures in (rw (t .0, r .0), (rw (t .1, r .0), r .1 .0))
 
 pub pica-open-spec : {M : Type 1} → statement M
 pica-open-spec =

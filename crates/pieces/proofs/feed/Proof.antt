@@ -1,9 +1,10 @@
 -- Each way out is one case of the feeding. Assumes nothing.
-use mathlib.Core.Path.{sym, _∙_}
+use mathlib.Core.Path.{sym, ap, _∙_}
 use borrow.Author.Tests.{not-true, not-false}
 use Rattle.registers.specs.State.{st}
 use Rattle.registers.proofs.Sizes.{lengths}
-use Rattle.pieces.proofs.Calls.{feed-wrong, feed-right}
+use Rattle.pieces.specs.Pieces.{told}
+use Rattle.pieces.proofs.Calls.{feed-told, feed-wrong, feed-right}
 use borrow.Author.Needs.{needs}
 use Rattle.pieces.proofs.feed.Statement.{statement}
 use Rattle.pieces.proofs.feed.Tie as tie
@@ -26,7 +27,8 @@ returns c =
     let at-start = at-is-sized .before .before .before .before .before .before .before .before in
     let a = at-start .args in
     let s = st (a .cells .now) (a .fog .now) (a .light .now) in
-    feed-wrong (a .p) s (a .part .now) (sym (at-is-sized .is-sized .ensures) ∙ not-true _ (c .if1 .taken))
+    let r = feed-wrong (a .p) s (a .part .now) (sym (at-is-sized .is-sized .ensures) ∙ not-true _ (c .if1 .taken)) in
+    (r .0, (r .1, ap told (r .0) ∙ feed-told (a .p) s (a .part .now)))
 
 take-part-requires : tie.Need-take-part-requires
 take-part-requires c κs =
@@ -58,8 +60,10 @@ returns-2 c =
     let a = at-start .args in
     let s = st (a .cells .now) (a .fog .now) (a .light .now) in
     let r = feed-right (a .p) s (a .part .now) (sym (at-is-sized .is-sized .ensures) ∙ not-false _ (at-if1 .if1 .left)) in
-    let w = at-take-part .take-part .ensures in
-    (rw (c .held-count .ensures, w .0) (r .0), w .1 ∙ r .1)
+    let w = at-take-part .take-part .ensures in (
+      rw (c .held-count .ensures, w .0) (r .0),
+      (w .1 ∙ r .1, rw (c .held-count .ensures, w .0) (ap told (r .0) ∙ feed-told (a .p) s (a .part .now))),
+    )
 
 pub feed-spec : {M : Type 1} → statement M
 feed-spec =

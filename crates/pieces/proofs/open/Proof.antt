@@ -1,9 +1,10 @@
 -- Each way out is one case of the opening. Assumes nothing.
-use mathlib.Core.Path.{sym, _∙_}
+use mathlib.Core.Path.{sym, ap, _∙_}
 use borrow.Author.Tests.{not-true, not-false}
 use Rattle.registers.specs.State.{st}
 use Rattle.registers.proofs.Sizes.{lengths}
-use Rattle.pieces.proofs.Calls.{wrong-live, wrong-spare, right-both, open-wrong, open-right}
+use Rattle.pieces.specs.Pieces.{told}
+use Rattle.pieces.proofs.Calls.{open-told, wrong-live, wrong-spare, right-both, open-wrong, open-right}
 use borrow.Author.Needs.{needs}
 use Rattle.pieces.proofs.open.Statement.{statement}
 use Rattle.pieces.proofs.open.Tie as tie
@@ -18,7 +19,8 @@ returns c =
     let a = at-start .args in
     let s = st (a .cells .now) (a .fog .now) (a .light .now) in
     let t = st (a .spare-cells .now) (a .spare-fog .now) (a .spare-light .now) in
-    open-wrong s t (wrong-live s t (sym (at-is-sized .is-sized .ensures) ∙ not-true _ (c .if1 .taken)))
+    let r = open-wrong s t (wrong-live s t (sym (at-is-sized .is-sized .ensures) ∙ not-true _ (c .if1 .taken))) in
+    (r .0, (r .1, ap told (r .0) ∙ open-told s t))
 
 is-sized-requires-2 : tie.Need-is-sized-requires-2
 is-sized-requires-2 c κs = search needs
@@ -39,7 +41,8 @@ returns-2 c =
     let a = at-start .args in
     let s = st (a .cells .now) (a .fog .now) (a .light .now) in
     let t = st (a .spare-cells .now) (a .spare-fog .now) (a .spare-light .now) in
-    open-wrong s t (wrong-spare s t (sym (at-is-sized2 .is-sized2 .ensures) ∙ not-true _ (c .if2 .taken)))
+    let r = open-wrong s t (wrong-spare s t (sym (at-is-sized2 .is-sized2 .ensures) ∙ not-true _ (c .if2 .taken))) in
+    (r .0, (r .1, ap told (r .0) ∙ open-told s t))
 
 take-state-requires : tie.Need-take-state-requires
 take-state-requires c κs =
@@ -80,8 +83,10 @@ returns-3 c =
     let t = st (a .spare-cells .now) (a .spare-fog .now) (a .spare-light .now) in
     let k = right-both s t (sym (at-is-sized .is-sized .ensures) ∙ not-false _ (at-if1 .if1 .left))
     (sym (at-is-sized2 .is-sized2 .ensures) ∙ not-false _ (at-if2 .if2 .left)) in
-    let r = open-right s t k in
-    (rw (c .fresh-progress .ensures) (r .0), at-take-state .take-state .ensures ∙ r .1)
+    let r = open-right s t k in (
+      rw (c .fresh-progress .ensures) (r .0),
+      (at-take-state .take-state .ensures ∙ r .1, rw (c .fresh-progress .ensures) (ap told (r .0) ∙ open-told s t)),
+    )
 
 pub open-spec : {M : Type 1} → statement M
 open-spec =
