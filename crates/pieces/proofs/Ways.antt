@@ -130,14 +130,14 @@ module _ (l : List ℕ) where
       (rw (i′, c′, l′, last-on (p .step) (p .id) n d) at
       (both-ways l p (ranOne p) (ran (ranOne p) n) i (i + 1) (i + 1 + n) _ _ (by-word l p (ranOne p) i _ (omega arith) one) rest))
 
-  -- with the ids of the run clear of all that is refused
+  -- with the ids of the run clear of all that is refused, and its first write apart
   pub run-way : (n i : ℕ) (p : Progress) → 0 < n → i + n ≤ length l → p .come + n ≤ 65536 → n ≤ p .left → p .fault ≡ 0 → p .step ≤ 1
       → p .id ≤ 0xFFFF → n ≤ 256 → clear (p .id + p .step) (lastId (p .id + p .step) (n - 1) (p .step)) (p .mask) ≡ true
       → Way l p i (moved p (p .come + n) (lastId (p .id + p .step) (n - 1) (p .step)) (p .left - n) (p .pad) (p .fault)) (i + n)
-      (runFrom l i n (p .id + p .step) (p .mask) (p .step))
+      (writing (p .id + p .step) (p .mask) (getD l i 0) ∷ runFrom l (i + 1) (n - 1) (p .id + p .step + p .step) (p .mask) (p .step))
   run-way n i p z a b c f d e m g =
       let last : lastId (p .id + p .step) (n - 1) (p .step) ≡ lastId (p .id) n (p .step) = last-before (p .step) (p .id) n d z in
-      rw last
+      rw (last, ← (runFrom-next l i n (p .id + p .step) (p .mask) (p .step) z))
       (ran-way n i p a b c f d (omega arith)
       (λ k x y. clear-fault (p .id + p .step) (lastId (p .id + p .step) (n - 1) (p .step)) k (p .mask) g x (rw last y)))
 

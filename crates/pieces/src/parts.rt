@@ -144,7 +144,7 @@ fn put_run(
     from: usize,
 )
     requires { ⌜ Lengths (now cells) (now fog) (now light) × LookupTables (now slots) (now held) ⌝ }
-    requires { ⌜ (h .id < 0x20000) × (h .count < 256) × (h .step ≤ 1) × (from + h .count ≤ length (now list)) ⌝ }
+    requires { ⌜ (h .id ≤ 0x20000) × (h .count < 256) × (h .step ≤ 1) × (from + h .count ≤ length (now list)) ⌝ }
     ensures { λ _. ⌜
         st (now (cells .exit)) (now (fog .exit)) (now (light .exit))
         ≡ applyAll (st (now (cells .entry)) (now (fog .entry)) (now (light .entry)))
@@ -175,8 +175,8 @@ fn put_run(
     }
 }
 
-// The writes of a command with the header `h`: its first value is `first`, the others stand in `list` from `from` on. What `commands` has for
-// this is made for a list that is read at once: called from two places it would no longer be put in line in either.
+// The writes of a command with the header `h`: its first value is `first`, the others stand in `list` from `from` on. `commands::apply_run`
+// does the same, and is left to `reader`: a function that is called from more places than one is not put in line, and reading was slower.
 fn put_command(
     cells: &mut [u32],
     fog: &mut [u32],
@@ -189,7 +189,7 @@ fn put_command(
     from: usize,
 )
     requires { ⌜ Lengths (now cells) (now fog) (now light) × LookupTables (now slots) (now held) ⌝ }
-    requires { ⌜ (h .id < 0x10000) × (h .count < 256) × (h .step ≤ 1) × (from + h .count ≤ length (now list)) ⌝ }
+    requires { ⌜ (h .id < 0x20000) × (h .count < 256) × (h .step ≤ 1) × (from + h .count ≤ length (now list)) ⌝ }
     ensures { λ _. ⌜
         st (now (cells .exit)) (now (fog .exit)) (now (light .exit))
         ≡ applyAll (st (now (cells .entry)) (now (fog .entry)) (now (light .entry))) (runWith h first (now (list .entry)) from)
@@ -312,12 +312,12 @@ fn least(a: u32, b: u32) -> u32
     if a < b { a } else { b }
 }
 
-// How many extra parameters can be taken in one run: those that are here and below the limit, at most 255.
+// How many extra parameters can be taken in one run: those that are here and below the limit, at most 256.
 fn run_length(left: u32, come: u32, here: usize) -> u32
     requires { ⌜ (0 < left) × (come ≤ 65535) × (0 < here) ⌝ }
-    ensures { λ r. ⌜ (0 < r) × (r ≤ left) × (come + r ≤ 65536) × (r ≤ here) × (r < 256) ⌝ }
+    ensures { λ r. ⌜ (0 < r) × (r ≤ left) × (come + r ≤ 65536) × (r ≤ here) × (r ≤ 256) ⌝ }
 {
-    let most = least(least(left, 65536 - come), 255);
+    let most = least(least(left, 65536 - come), 256);
     if here < most as usize {
         here as u32
     } else {
@@ -355,10 +355,10 @@ fn take_extras(
     let h = Header {
         id: first,
         mask: p.mask,
-        count: n,
+        count: n - 1,
         step: p.step,
     };
-    put_run(cells, fog, light, slots, held, h, part, at);
+    put_command(cells, fog, light, slots, held, h, part[at], part, at + 1);
     let mut q = p;
     q.come = p.come + n;
     q.id = last;

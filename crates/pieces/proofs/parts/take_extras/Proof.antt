@@ -53,14 +53,32 @@ returns-2 c =
     let at-start = c .before .before .before .before .before .before .before .before .before .before .before .before .before .before in
     leads-none (at-start .args .part .now) (at-start .args .p) (at-start .args .at) _ (omega (arith, at-start .pre .1 .0))
 
-put-run-requires : tie.Need-put-run-requires
-put-run-requires c κs =
-    let at-run-length = c .before .before .before .before .before .before .before in
+sub-put-command : tie.Need-sub-put-command
+sub-put-command c = search needs
+
+mul-put-command : tie.Need-mul-put-command
+mul-put-command c =
+    let at-start = c .before .before .before .before .before .before .before .before .before .before .before .before .before .before .before .before .before in
+    omega (arith, at-start .good, at-start .pre .1 .0)
+
+shared-slice-read-put-command : tie.Need-shared-slice-read-put-command
+shared-slice-read-put-command c =
+    let at-start = c .before .before .before .before .before .before .before .before .before .before .before .before .before .before .before .before .before .before in
+    at-start .pre .1 .0
+
+add-put-command : tie.Need-add-put-command
+add-put-command c =
+    let at-start = c .before .before .before .before .before .before .before .before .before .before .before .before .before .before .before .before .before .before in
+    omega (arith, at-start .good, at-start .pre .1 .0)
+
+put-command-requires : tie.Need-put-command-requires
+put-command-requires c κs =
+    let at-run-length = c .before .before .before .before .before .before .before .before in
     let at-if1 = at-run-length .before in
     let at-start = at-if1 .before .before .before .before .before .before .before .before .before in
     let n = at-run-length .run-length .ensures in
     let f = plain at-if1 in
-    (at-start .pre .0, (omega (arith, f .1, f .2), n .4, f .1, omega (arith, n .3, at-start .pre .1 .0)))
+    (at-start .pre .0, (omega (arith, f .1, f .2), omega (arith, n .4), f .1, omega (arith, n .0, n .3, at-start .pre .1 .0)))
 
 add-q : tie.Need-add-q
 add-q c = search needs
@@ -73,7 +91,7 @@ cast-t23 c = search needs
 
 add-t22 : tie.Need-add-t22
 add-t22 c =
-    let at-run-length = c .before .before .before .before .before .before .before .before .before .before .before .before .before .before .before .before in
+    let at-run-length = c .before .before .before .before .before .before .before .before .before .before .before .before .before .before .before .before .before in
     let at-start = at-run-length .before .before .before .before .before .before .before .before .before .before in
     omega (arith, at-start .good, at-start .pre .1 .0, at-run-length .run-length .ensures .4)
 
@@ -88,8 +106,8 @@ same-length-3 c = search needs
 
 returns-3 : tie.Need-returns-3
 returns-3 c =
-    let at-put-run = c .before .before .before .before .before .before .before .before in
-    let at-if2 = at-put-run .before .before .before .before in
+    let at-put-command = c .before .before .before .before .before .before .before .before in
+    let at-if2 = at-put-command .before .before .before .before .before in
     let at-is-clear = at-if2 .before in
     let at-last-id = at-is-clear .before in
     let at-run-length = at-last-id .before .before in
@@ -104,8 +122,8 @@ returns-3 c =
     let sure = sym (at-is-clear .is-clear .ensures) ∙ not-false _ (at-if2 .if2 .left) in
     rw e
     (leads-by l (a .p) _ (a .at) _ (st (a .cells .now) (a .fog .now) (a .light .now)) _ _
-    (run-way l _ (a .at) (a .p) (n .0) (omega (arith, n .3, b .0)) (n .2) (n .1) (f .0) (f .1) (f .2) (omega (arith, n .4)) (rw (← e) sure))
-    (omega (arith, n .0)) (omega (arith, n .3, b .0)) (at-put-run .put-run .ensures))
+    (run-way l _ (a .at) (a .p) (n .0) (omega (arith, n .3, b .0)) (n .2) (n .1) (f .0) (f .1) (f .2) (n .4) (rw (← e) sure))
+    (omega (arith, n .0)) (omega (arith, n .3, b .0)) (at-put-command .put-command .ensures))
 
 pub take-extras-spec : {M : Type 1} → statement M
 take-extras-spec =
@@ -119,7 +137,11 @@ take-extras-spec =
     last-id-requires
     is-clear-requires
     returns-2
-    put-run-requires
+    sub-put-command
+    mul-put-command
+    shared-slice-read-put-command
+    add-put-command
+    put-command-requires
     add-q
     sub-q
     cast-t23
