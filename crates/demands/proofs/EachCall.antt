@@ -42,7 +42,8 @@ feed-answers {p} {s} {t} {l} c e =
     let r = feed-right p s l e in
     let i = k .1 ∙ sym (r .1) in (k .0 ∙ sym (r .0), i, rw i (sized-kept s (made p l) ∙ e))
 
--- "On acceptance the live state takes those of the spare", which keeps what it has; "on any other refusal the spare those of the live"; "and
+-- "On acceptance the live state takes those of the spare", which keeps what it has; "on any other refusal the spare those of the
+-- live"; "and
 -- the reader is as freshly opened"
 module _ {p : Progress} {live spare live′ spare′ : State} {c : Closed} (k : CloseCall p live spare c live′ spare′)
     (e : bothSized live spare ≡ true) where

@@ -1,4 +1,5 @@
--- Request 1 as a C caller has it: open, any parts, close give the number that `pica_read` gives for the joined list, and leave the same live
+-- Request 1 as a C caller has it: open, any parts, close give the number that `pica_read` gives for the joined list, and leave the
+-- same live
 -- state. From the contracts of the C functions. Assumes nothing; that the live state's cells are 32-bit words is asked where said.
 use mathlib.Core.Path.{_≡_, refl, sym, ap, _∙_}
 use mathlib.Core.Bool.{true, _&&_}

@@ -1,7 +1,7 @@
 -- The first write, and then the run of the others. Assumes nothing.
-use mathlib.Core.Path.{_≡_, sym, _∙_}
+use mathlib.Core.Path.{sym, _∙_}
 use native.Mathlib.Omega.{arith}
-use Prim.Native.Nat.{_+_, _≤_}
+use Prim.Native.Nat.{_+_}
 use Rattle.registers.specs.State.{st}
 use Rattle.registers.specs.Applied.{put}
 use Rattle.numbers.specs.Bits.{spread}
@@ -9,33 +9,22 @@ use Rattle.commands.proofs.Applying.{apply-more, run-applied}
 use borrow.Author.Needs.{needs}
 use Rattle.pieces.proofs.parts.put_command.Statement.{statement}
 use Rattle.pieces.proofs.parts.put_command.Tie as tie
-use Rattle.pieces.proofs.parts.put_command.Reads as reads
-use Rattle.pieces.proofs.parts.put_command.Lts as lts
-use Rattle.pieces.proofs.parts.put_run.Reads as put-run-reads
-use Rattle.ports.proofs.spread_mask.Reads as spread-mask-reads
-use Rattle.registers.proofs.put_one.Reads as put-one-reads
 
--- src/parts.rt:199:9
 spread-mask-requires : tie.Need-spread-mask-requires
 spread-mask-requires c κs = search needs
 
--- src/parts.rt:200:5
 put-one-requires : tie.Need-put-one-requires
 put-one-requires c κs = search needs
 
--- src/parts.rt:202:9
 same-length : tie.Need-same-length
 same-length c = search needs
 
--- src/parts.rt:202:9
 same-length-2 : tie.Need-same-length-2
 same-length-2 c = search needs
 
--- src/parts.rt:202:9
 same-length-3 : tie.Need-same-length-3
 same-length-3 c = search needs
 
--- src/parts.rt:202:9
 returns : tie.Need-returns
 returns c =
     let at-put-one = c .before .before .before .before .before .before .before .before in
@@ -45,34 +34,31 @@ returns c =
     let s = st (a .cells .now) (a .fog .now) (a .light .now) in
     let t = put s (a .h .id) (spread (a .h .mask)) (a .first) in
     rw (at-spread-mask .spread-mask .ensures) at (at-put-one .put-one .ensures)
-    ∙ sym (apply-more s _ _ ∙ run-applied (a .list .now) (a .h .mask) t (a .from) (a .h .count) (a .h .id + a .h .step) (a .h .step) (omega (arith, c .if1 .taken)))
+    ∙ sym (apply-more s _ _ ∙ run-applied (a .list .now) (a .h .mask) t (a .from) (a .h .count) (a .h .id + a .h .step) (a .h .step)
+    (omega (arith, c .if1 .taken)))
 
--- src/parts.rt:205:13
 add-t21 : tie.Need-add-t21
 add-t21 c = search needs
 
--- src/parts.rt:210:5
 put-run-requires : tie.Need-put-run-requires
 put-run-requires c κs =
     let at-put-one = c .before .before .before .before .before .before .before .before .before .before .before .before in
     let at-start = at-put-one .before .before .before .before .before .before .before .before .before in
     let p = at-start .pre in
-    let w = at-put-one .put-one .kept in
-    (((omega (arith, p .0 .0 .0, w .0), omega (arith, p .0 .0 .1, w .1 .0), omega (arith, p .0 .0 .2, w .1 .1 .0)), p .0 .1), (omega (arith, p .1 .0, p .1 .2), p .1 .1, p .1 .2, p .1 .3))
+    let w = at-put-one .put-one .kept in (
+      ((omega (arith, p .0 .0 .0, w .0), omega (arith, p .0 .0 .1, w .1 .0), omega (arith, p .0 .0 .2, w .1 .1 .0)), p .0 .1),
+      (omega (arith, p .1 .0, p .1 .2), p .1 .1, p .1 .2, p .1 .3),
+    )
 
--- src/parts.rt:180:1
 same-length-4 : tie.Need-same-length-4
 same-length-4 c = search needs
 
--- src/parts.rt:180:1
 same-length-5 : tie.Need-same-length-5
 same-length-5 c = search needs
 
--- src/parts.rt:180:1
 same-length-6 : tie.Need-same-length-6
 same-length-6 c = search needs
 
--- src/parts.rt:180:1
 returns-2 : tie.Need-returns-2
 returns-2 c =
     let at-put-run = c .before .before .before .before .before .before in

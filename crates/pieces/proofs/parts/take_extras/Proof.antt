@@ -58,17 +58,20 @@ sub-put-command c = search needs
 
 mul-put-command : tie.Need-mul-put-command
 mul-put-command c =
-    let at-start = c .before .before .before .before .before .before .before .before .before .before .before .before .before .before .before .before .before in
+    let at-start = c .before .before .before .before .before .before .before .before .before .before .before .before .before .before
+    .before .before .before in
     omega (arith, at-start .good, at-start .pre .1 .0)
 
 shared-slice-read-put-command : tie.Need-shared-slice-read-put-command
 shared-slice-read-put-command c =
-    let at-start = c .before .before .before .before .before .before .before .before .before .before .before .before .before .before .before .before .before .before in
+    let at-start = c .before .before .before .before .before .before .before .before .before .before .before .before .before .before
+    .before .before .before .before in
     at-start .pre .1 .0
 
 add-put-command : tie.Need-add-put-command
 add-put-command c =
-    let at-start = c .before .before .before .before .before .before .before .before .before .before .before .before .before .before .before .before .before .before in
+    let at-start = c .before .before .before .before .before .before .before .before .before .before .before .before .before .before
+    .before .before .before .before in
     omega (arith, at-start .good, at-start .pre .1 .0)
 
 put-command-requires : tie.Need-put-command-requires
@@ -91,7 +94,8 @@ cast-t23 c = search needs
 
 add-t22 : tie.Need-add-t22
 add-t22 c =
-    let at-run-length = c .before .before .before .before .before .before .before .before .before .before .before .before .before .before .before .before .before in
+    let at-run-length = c .before .before .before .before .before .before .before .before .before .before .before .before .before
+    .before .before .before .before in
     let at-start = at-run-length .before .before .before .before .before .before .before .before .before .before in
     omega (arith, at-start .good, at-start .pre .1 .0, at-run-length .run-length .ensures .4)
 

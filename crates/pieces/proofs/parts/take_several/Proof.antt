@@ -1,37 +1,26 @@
 -- Each way out is a step, or none. Assumes nothing.
 use native.Mathlib.Omega.{arith}
-use Prim.Native.Nat.{_≤_, _<_}
 use Rattle.pieces.proofs.Choices.{between-facts}
 use Rattle.pieces.proofs.Ways.{leads-none}
 use borrow.Author.Needs.{needs}
 use Rattle.pieces.proofs.parts.take_several.Statement.{statement}
 use Rattle.pieces.proofs.parts.take_several.Tie as tie
-use Rattle.pieces.proofs.parts.take_several.Reads as reads
-use Rattle.pieces.proofs.parts.take_several.Lts as lts
-use Rattle.pieces.proofs.parts.take_commands.Reads as take-commands-reads
-use Rattle.pieces.proofs.parts.take_extras.Reads as take-extras-reads
 
--- src/parts.rt:391:9
 take-extras-requires : tie.Need-take-extras-requires
 take-extras-requires c κs = search needs
 
--- src/parts.rt:391:9
 same-length : tie.Need-same-length
 same-length c = search needs
 
--- src/parts.rt:391:9
 same-length-2 : tie.Need-same-length-2
 same-length-2 c = search needs
 
--- src/parts.rt:391:9
 same-length-3 : tie.Need-same-length-3
 same-length-3 c = search needs
 
--- src/parts.rt:391:9
 returns : tie.Need-returns
 returns c = search needs
 
--- src/parts.rt:394:9
 take-commands-requires : tie.Need-take-commands-requires
 take-commands-requires c κs =
     let at-if2 = c .before .before .before in
@@ -40,23 +29,18 @@ take-commands-requires c κs =
     let f = between-facts (p .left) (p .pad) (p .begun) (p .fault) (at-if2 .if2 .taken) in
     (at-start .pre .0, (omega (arith, at-start .pre .1), f .0, f .1, f .2, f .3))
 
--- src/parts.rt:394:9
 same-length-4 : tie.Need-same-length-4
 same-length-4 c = search needs
 
--- src/parts.rt:394:9
 same-length-5 : tie.Need-same-length-5
 same-length-5 c = search needs
 
--- src/parts.rt:394:9
 same-length-6 : tie.Need-same-length-6
 same-length-6 c = search needs
 
--- src/parts.rt:394:9
 returns-2 : tie.Need-returns-2
 returns-2 c = search needs
 
--- src/parts.rt:373:1
 returns-3 : tie.Need-returns-3
 returns-3 c =
     let at-start = c .before .before .before .before .before .before .before .before .before .before .before in

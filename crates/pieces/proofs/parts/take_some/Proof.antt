@@ -1,65 +1,61 @@
 -- Several words at once, or one. Assumes nothing.
 use native.Mathlib.Omega.{arith}
-use Prim.Native.Nat.{_≤_, _<_}
 use Rattle.registers.specs.State.{st}
 use Rattle.pieces.proofs.Ways.{leads-on}
 use borrow.Author.Needs.{needs}
 use Rattle.pieces.proofs.parts.take_some.Statement.{statement}
 use Rattle.pieces.proofs.parts.take_some.Tie as tie
-use Rattle.pieces.proofs.parts.take_some.Reads as reads
-use Rattle.pieces.proofs.parts.take_some.Lts as lts
-use Rattle.pieces.proofs.parts.take_one.Reads as take-one-reads
-use Rattle.pieces.proofs.parts.take_several.Reads as take-several-reads
 
--- src/parts.rt:418:9
 take-several-requires : tie.Need-take-several-requires
 take-several-requires c κs = search needs
 
--- src/parts.rt:420:9
 same-length : tie.Need-same-length
 same-length c = search needs
 
--- src/parts.rt:420:9
 same-length-2 : tie.Need-same-length-2
 same-length-2 c = search needs
 
--- src/parts.rt:420:9
 same-length-3 : tie.Need-same-length-3
 same-length-3 c = search needs
 
--- src/parts.rt:420:9
 returns : tie.Need-returns
 returns c =
     let at-take-several = c .before .before .before .before .before .before .before .before in
     (c .if1 .taken, at-take-several .take-several .ensures)
 
--- src/parts.rt:423:5
 take-one-requires : tie.Need-take-one-requires
 take-one-requires c κs =
     let at-if1 = c .before .before .before .before in
     let at-take-several = at-if1 .before .before .before .before .before .before .before .before in
     let at-start = at-take-several .before .before .before .before .before .before .before .before in
     let w = at-take-several .take-several in
-    let b = at-start .pre in
-    (((omega (arith, b .0 .0 .0, w .kept .1 .0), omega (arith, b .0 .0 .1, w .kept .1 .1 .0), omega (arith, b .0 .0 .2, w .kept .1 .1 .1 .0)), b .0 .1), omega (arith, at-if1 .if1 .left, b .1))
+    let b = at-start .pre in (
+      (
+        (
+          omega (arith, b .0 .0 .0, w .kept .1 .0),
+          omega (arith, b .0 .0 .1, w .kept .1 .1 .0),
+          omega
+              (arith, b .0 .0 .2, w .kept .1 .1 .1 .0),
+        ),
+        b .0 .1,
+      ),
+      omega (arith, at-if1 .if1 .left, b .1),
+    )
 
--- src/parts.rt:400:1
 same-length-4 : tie.Need-same-length-4
 same-length-4 c = search needs
 
--- src/parts.rt:400:1
 same-length-5 : tie.Need-same-length-5
 same-length-5 c = search needs
 
--- src/parts.rt:400:1
 same-length-6 : tie.Need-same-length-6
 same-length-6 c = search needs
 
--- src/parts.rt:400:1
 returns-2 : tie.Need-returns-2
 returns-2 c =
     let at-take-one = c .before .before .before .before .before .before in
-    let at-take-several = at-take-one .before .before .before .before .before .before .before .before .before .before .before .before .before in
+    let at-take-several = at-take-one .before .before .before .before .before .before .before .before .before .before .before .before
+    .before in
     let at-start = at-take-several .before .before .before .before .before .before .before .before in
     let a = at-start .args in
     let one = at-take-one .take-one .ensures in
