@@ -1,8 +1,8 @@
 -- Request 1 as a C caller has it: open, any parts, close give the number that `pica_read` gives for the joined list, and leave the
 -- same live
 -- state. From the contracts of the C functions. Assumes nothing; that the live state's cells are 32-bit words is asked where said.
-use mathlib.Core.Path.{_≡_, refl, sym, ap, _∙_}
-use mathlib.Core.Bool.{true, _&&_}
+use mathlib.Core.Path.{_≡_, sym, ap, _∙_}
+use mathlib.Core.Bool.{true}
 use mathlib.Core.List.{List}
 use Prim.Native.Nat.{ℕ}
 use native.Mathlib.Decide.{decLt}

@@ -13,10 +13,11 @@ use lib.Seq.{getD-set-same, getD-set-other, set-out, ext-getD}
 use borrow.Author.Tests.{eqb-true, eqb-false}
 use Rattle.numbers.specs.Pick.{pick}
 use Rattle.numbers.specs.Bits.{bit, spread, merge, pickBit}
+use Rattle.numbers.proofs.Picks.{pick-either}
 use Rattle.numbers.proofs.Merge.{and-bit, bits-equal, merge-bit, merge-word}
 use Rattle.words.specs.Writes.{Write, fogData, lightData}
-use Rattle.ports.specs.Ports.{rise, fogCells, fogEntries, lightCells, lightEntries}
-use Rattle.registers.specs.State.{State, st, sized}
+use Rattle.ports.specs.Ports.{rise, fogCells, lightCells}
+use Rattle.registers.specs.State.{State, sized}
 use Rattle.registers.specs.Held.{bitsOf}
 use Rattle.registers.specs.Applied.{cellsAfter, put, apply, applyAll}
 use Rattle.registers.proofs.Sizes.{lengths}
@@ -31,10 +32,13 @@ pub sized-kept : (s : State) (ws : List Write) → sized (applyAll s ws) ≡ siz
 sized-kept = run-keeps sized apply-sized
 
 -- WORDS: a state's cells are 32-bit words, before and after any run of writes
-abbrev pub Words : State → Type 0
-Words s = (j : ℕ) → getD (s .cells) j 0 < 0x100000000
+abbrev Small : List ℕ → Type 0
+Small l = (j : ℕ) → getD l j 0 < 0x100000000
 
-set-small : (l : List ℕ) (i v : ℕ) → ((j : ℕ) → getD l j 0 < 0x100000000) → v < 0x100000000 → (j : ℕ) → getD (set l i v) j 0 < 0x100000000
+abbrev pub Words : State → Type 0
+Words s = Small (s .cells)
+
+set-small : (l : List ℕ) (i v : ℕ) → Small l → v < 0x100000000 → Small (set l i v)
 set-small l i v h b j = go (eqb j i) refl (decLt i (length l))
   where
     go : (t : Bool) → eqb j i ≡ t → Dec (i < length l) → getD (set l i v) j 0 < 0x100000000
@@ -42,15 +46,15 @@ set-small l i v h b j = go (eqb j i) refl (decLt i (length l))
     go true d (yes q) = rw (eqb-true j i d, getD-set-same l i v 0 q) b
     go true d (no q) = rw (set-out l i v (omega arith)) (h j)
 
-fog-words : (c : List ℕ) → ((j : ℕ) → getD c j 0 < 0x100000000) → (j : ℕ) → getD (fogCells c) j 0 < 0x100000000
+fog-words : (c : List ℕ) → Small c → Small (fogCells c)
 unfolding fogCells
 fog-words c h j = set-small c 0xE6 (rise 128 (getD c 0xE6 0)) h (omega (arith, h 0xE6)) j
 
-light-words : (c : List ℕ) → ((j : ℕ) → getD c j 0 < 0x100000000) → (j : ℕ) → getD (lightCells c) j 0 < 0x100000000
+light-words : (c : List ℕ) → Small c → Small (lightCells c)
 unfolding lightCells
 light-words c h j = set-small c 0x1C5 (rise 256 (getD c 0x1C5 0)) h (omega (arith, h 0x1C5)) j
 
-cell-words : (c : List ℕ) (i e v : ℕ) → ((j : ℕ) → getD c j 0 < 0x100000000) → (j : ℕ) → getD (cellsAfter c i e v) j 0 < 0x100000000
+cell-words : (c : List ℕ) (i e v : ℕ) → Small c → Small (cellsAfter c i e v)
 unfolding cellsAfter
 cell-words c i e v h j = go (eqb (bitsOf i) 0)
   where
@@ -62,15 +66,11 @@ cell-words c i e v h j = go (eqb (bitsOf i) 0)
 
 write-words : (s : State) (w : Write) → Words s → Words (apply s w)
 unfolding put
-write-words s w h j = go (fogData (w .id)) (lightData (w .id))
-  where
-    go : (a b : Bool)
-        → getD (pick a (st (fogCells (s .cells)) (fogEntries (s .cells) (s .fog) (w .value)) (s .light))
-        (pick b (st (lightCells (s .cells)) (s .fog) (lightEntries (s .cells) (s .light) (w .value)))
-        (st (cellsAfter (s .cells) (w .id) (spread (w .mask)) (w .value)) (s .fog) (s .light))) .cells) j 0 < 0x100000000
-    go true b = fog-words (s .cells) h j
-    go false true = light-words (s .cells) h j
-    go false false = cell-words (s .cells) (w .id) (spread (w .mask)) (w .value) h j
+write-words s w h =
+    let P : State → Type 0 = Words in
+    pick-either P (fogData (w .id)) (fog-words (s .cells) h)
+    (pick-either P (lightData (w .id)) (light-words (s .cells) h)
+    (cell-words (s .cells) (w .id) (spread (w .mask)) (w .value) h))
 
 pub run-words : (s : State) (ws : List Write) → Words s → Words (applyAll s ws)
 unfolding applyAll
@@ -83,7 +83,8 @@ held-taken-bit zero o n = rw (and-zero-r n) (and-zero-r o)
 held-taken-bit (suc h) o n = refl
 
 -- the held bits of a cell that takes are those of the cell that it takes of
-cell-held : (b : Bool) (j o n : ℕ) → eqb (bitsOf j) 0 ≡ b → bitAnd (pick b o (merge (bitsOf j) o n)) (bitsOf j) ≡ bitAnd n (bitsOf j)
+cell-held : (b : Bool) (j o n : ℕ) → eqb (bitsOf j) 0 ≡ b
+    → bitAnd (pick b o (merge (bitsOf j) o n)) (bitsOf j) ≡ bitAnd n (bitsOf j)
 cell-held true j o n t = rw (eqb-true (bitsOf j) 0 t, and-zero-r o) (sym (and-zero-r n))
 cell-held false j o n t =
     let H = bitsOf j in
@@ -92,7 +93,8 @@ cell-held false j o n t =
     (λ k l. rw (and-bit k (merge H o n) H, and-bit k n H, merge-bit k H o n b l) (held-taken-bit (bit k H) (bit k o) (bit k n)))
 
 -- what f sees of elements that took, all n of them
-taking-seen : (f : ℕ → ℕ → ℕ → ℕ) (see : ℕ → ℕ) (n j : ℕ) (to from : List ℕ) → length to ≡ n → length from ≡ n
+taking-seen : (f : ℕ → ℕ → ℕ → ℕ) (see : ℕ → ℕ) (n j : ℕ) (to from : List ℕ) → length to ≡ n
+    → length from ≡ n
     → ((o v : ℕ) → see (f j o v) ≡ see v) → see (getD (taking f n to from) j 0) ≡ see (getD from j 0)
 taking-seen f see n j to from a b e = go (decLt j n)
   where
@@ -159,7 +161,8 @@ module _ (live s : State) (ws : List Write) (t : sized live ≡ true) (f : sized
   abbrev done : State
   done = applyAll live ws
 
-  same-bits : (j x : ℕ) → x < 0x100000000 → ((k : ℕ) → k < 32 → bit k x ≡ bit k (getD (done .cells) j 0)) → x ≡ getD (done .cells) j 0
+  same-bits : (j x : ℕ) → x < 0x100000000 → ((k : ℕ) → k < 32 → bit k x ≡ bit k (getD (done .cells) j 0))
+      → x ≡ getD (done .cells) j 0
   same-bits j x h b = bits-equal 32 x (getD (done .cells) j 0) h (run-words live ws w j) b
 
   cell-taken : (b : Bool) (j : ℕ) → eqb (bitsOf j) 0 ≡ b

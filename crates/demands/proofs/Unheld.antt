@@ -54,11 +54,13 @@ above-bit : (n k x y : ℕ) → n ≤ k → x / 2 ^ n ≡ y / 2 ^ n → bit k x 
 above-bit n k x y h e =
     let d : n + (k - n) ≡ k = omega arith in
     let split : (z : ℕ) → z / 2 ^ k ≡ z / 2 ^ n / 2 ^ (k - n) =
-    λ z. sym (div-div-eq-div-mul z (2 ^ n) (2 ^ (k - n)) ∙ ap (λ (m : ℕ). z / m) (sym (pow-add 2 n (k - n)) ∙ ap (λ (m : ℕ). 2 ^ m) d)) in
+    λ z. sym (div-div-eq-div-mul z (2 ^ n) (2 ^ (k - n))
+    ∙ ap (λ (m : ℕ). z / m) (sym (pow-add 2 n (k - n)) ∙ ap (λ (m : ℕ). 2 ^ m) d)) in
     rw (split x, split y, e)
 
 -- what f sees of each element stays, where an element is set to one of which f sees the same
-set-keeps : (f : ℕ → ℕ) (l : List ℕ) (i j v : ℕ) → (j ≡ i → f v ≡ f (getD l i 0)) → f (getD (set l i v) j 0) ≡ f (getD l j 0)
+set-keeps : (f : ℕ → ℕ) (l : List ℕ) (i j v : ℕ) → (j ≡ i → f v ≡ f (getD l i 0))
+    → f (getD (set l i v) j 0) ≡ f (getD l j 0)
 set-keeps f l i j v e = go (eqb j i) refl (decLt i (length l))
   where
     go : (b : Bool) → eqb j i ≡ b → Dec (i < length l) → f (getD (set l i v) j 0) ≡ f (getD l j 0)
@@ -75,7 +77,8 @@ above true b e h = e
 above false b e h = absurd (false≢true h)
 
 -- the test, computed over the 32 bits of a word, says so
-index-from : (held n : ℕ) → T (every (λ k _. index-bit held n k) 0 (replicate 32 0)) → (k : ℕ) → k < 32 → bit k held ≡ 0 → n ≤ k
+index-from : (held n : ℕ) → T (every (λ k _. index-bit held n k) 0 (replicate 32 0)) → (k : ℕ) → k < 32 → bit k held ≡ 0
+    → n ≤ k
 unfolding index-bit
 index-from held n test k b u =
     let t = at (λ k _. index-bit held n k) (replicate 32 0) test k (omega (arith, length-replicate {A = ℕ} 32 0)) in
@@ -116,7 +119,8 @@ module _ (cells : List ℕ) (j k : ℕ) (b : k < 32) (u : bit k (bitsOf j) ≡ 0
   cell-kept i m v = go (eqb (bitsOf i) 0)
     where
       go : (h : Bool)
-          → bit k (getD (pick h cells (set cells i (merge (bitAnd (bitsOf i) (spread m)) (getD cells i 0) v))) j 0) ≡ bit k (getD cells j 0)
+          → bit k (getD (pick h cells (set cells i (merge (bitAnd (bitsOf i) (spread m)) (getD cells i 0) v))) j 0)
+          ≡ bit k (getD cells j 0)
       go true = refl
       go false = set-keeps (bit k) cells i j (merge (bitAnd (bitsOf i) (spread m)) (getD cells i 0) v) (merged-bit i m v)
 
@@ -135,14 +139,16 @@ light-high cells light v j =
     pick-either (λ (l : List ℕ). high (getD l j 0) ≡ high (getD light j 0)) (named (lightTable cells))
     (set-keeps high light p j (entry (getD light p 0) v) (λ e. omega arith)) refl
 
-light-unnamed : (cells light : List ℕ) (v j : ℕ) → named (j / 256) ≡ false → getD (lightEntries cells light v) j 0 ≡ getD light j 0
+light-unnamed : (cells light : List ℕ) (v j : ℕ) → named (j / 256) ≡ false
+    → getD (lightEntries cells light v) j 0 ≡ getD light j 0
 unfolding lightEntries
 light-unnamed cells light v j u = go (named (lightTable cells)) refl
   where
     p : ℕ
     p = lightPlace cells
 
-    go : (n : Bool) → named (lightTable cells) ≡ n → getD (pick n (set light p (entry (getD light p 0) v)) light) j 0 ≡ getD light j 0
+    go : (n : Bool) → named (lightTable cells) ≡ n
+        → getD (pick n (set light p (entry (getD light p 0) v)) light) j 0 ≡ getD light j 0
     go true n =
         set-keeps (λ x. x) light p j (entry (getD light p 0) v)
         (λ e. let t : j / 256 ≡ lightTable cells = omega arith in absurd (false≢true (sym u ∙ rw t n)))

@@ -24,7 +24,8 @@ use Rattle.runs.proofs.Shortest.{plain}
 use Rattle.runs.proofs.Writes.{writes-length, writes-at, values-from}
 use Rattle.laying.specs.Laying.{stepAt, afterShort}
 
-pub copied : (old s start new : List ℕ) (at m n : ℕ) → start ≡ paste old at s 2 → new ≡ paste start at s (m + 1) → m + 1 ≡ n → 2 ≤ n
+pub copied : (old s start new : List ℕ) (at m n : ℕ) → start ≡ paste old at s 2 → new ≡ paste start at s (m + 1)
+    → m + 1 ≡ n → 2 ≤ n
     → at + n ≤ length old → n ≤ length s → new ≡ paste old at s n
 copied old s start new at m n e f g h q r = f ∙ rw (e, g) (copy-more old s at 2 n q (omega arith) h)
 
@@ -53,7 +54,8 @@ module _ (is ms vs : List ℕ) (G : PackableRun is ms vs) (i k : ℕ) (F : OneCo
 
   pub word-extra : (m : ℕ) → 1 ≤ m → m < k → getD vs (i + m) 0 ≡ getD (command k (drop i ws)) (m + 1) 0
   word-extra m p q =
-      sym (getD-drop i vs m 0) ∙ rw (← values-from is ms vs i (G .masks) (G .values), at-i) (sym (command-extra k _ _ (F .low) fits m p q))
+      sym (getD-drop i vs m 0)
+      ∙ rw (← values-from is ms vs i (G .masks) (G .values), at-i) (sym (command-extra k _ _ (F .low) fits m p q))
 
   pub word-pad : k % 2 ≡ 0 → 0 ≡ getD (command k (drop i ws)) (k + 1) 0
   word-pad e = rw at-i (sym (command-pad k _ _ (F .low) fits e))
@@ -69,7 +71,8 @@ module _ (is ms vs : List ℕ) (G : PackableRun is ms vs) (i k : ℕ) (F : OneCo
       rw (at-i, next) (go t e f)
     where
       go : (t : Bool) → eqb (getD is (i + 1) 0) (getD is i 0) ≡ t
-          → k ≤ span (here i ∷ here (i + 1) ∷ drop (i + 1 + 1) ws) → pick t 0 1 ≡ stepFor k (here i ∷ here (i + 1) ∷ drop (i + 1 + 1) ws)
+          → k ≤ span (here i ∷ here (i + 1) ∷ drop (i + 1 + 1) ws)
+          → pick t 0 1 ≡ stepFor k (here i ∷ here (i + 1) ∷ drop (i + 1 + 1) ws)
       go true e f = sym (step-same k (here i) (here (i + 1)) (drop (i + 1 + 1) ws) h f (eqb-true _ _ e))
       go false e f = sym (step-rise k (here i) (here (i + 1)) (drop (i + 1 + 1) ws) h f (eqb-false _ _ e))
 
@@ -81,7 +84,8 @@ module _ (is ms vs : List ℕ) (G : PackableRun is ms vs) (i k : ℕ) (F : OneCo
       go (no q) = rw (le-ltb k 2 (omega arith)) (by-next (omega arith) (eqb (getD is (i + 1) 0) (getD is i 0)) refl)
 
   -- ITS FIRST TWO WORDS, as they are stored
-  pub two-words : (old : List ℕ) (at h : ℕ) → at + words k ≤ length old → h ≡ header (getD is i 0) (getD ms i 0) k (stepAt is i k)
+  pub two-words : (old : List ℕ) (at h : ℕ) → at + words k ≤ length old
+      → h ≡ header (getD is i 0) (getD ms i 0) k (stepAt is i k)
       → set (set old at (getD vs i 0)) (at + 1) h ≡ paste old at (command k (drop i ws)) 2
   two-words old at h r e =
       let C = command k (drop i ws) in
@@ -92,7 +96,8 @@ module _ (is ms vs : List ℕ) (G : PackableRun is ms vs) (i k : ℕ) (F : OneCo
       (e ∙ rw step-is word-header)
 
   -- the second parameter after them
-  second-parameter : (old start : List ℕ) (at : ℕ) → 2 ≤ k → at + words k ≤ length old → start ≡ paste old at (command k (drop i ws)) 2
+  second-parameter : (old start : List ℕ) (at : ℕ) → 2 ≤ k → at + words k ≤ length old
+      → start ≡ paste old at (command k (drop i ws)) 2
       → set start (at + 2) (getD vs (i + 1) 0) ≡ paste old at (command k (drop i ws)) 3
   second-parameter old start at h r e =
       let C = command k (drop i ws) in
@@ -101,7 +106,8 @@ module _ (is ms vs : List ℕ) (G : PackableRun is ms vs) (i k : ℕ) (F : OneCo
       (word-extra 1 (omega arith) (omega arith))
 
   -- A SHORT ONE, from its first two words
-  pub short-words : (old start : List ℕ) (at : ℕ) → k < 4 → at + words k ≤ length old → start ≡ paste old at (command k (drop i ws)) 2
+  pub short-words : (old start : List ℕ) (at : ℕ) → k < 4 → at + words k ≤ length old
+      → start ≡ paste old at (command k (drop i ws)) 2
       → afterShort vs i k start at ≡ paste old at (command k (drop i ws)) (words k)
   short-words old start at q r e = go k refl
     where

@@ -1,6 +1,6 @@
 -- What each call answers and leaves, by the tests that code makes. Assumes nothing.
 use mathlib.Core.Path.{_≡_, refl}
-use mathlib.Core.Bool.{Bool, true, false}
+use mathlib.Core.Bool.{Bool, true, false, _&&_, and-false}
 use mathlib.Core.List.{List}
 use Prim.Native.Nat.{ℕ}
 use Rattle.numbers.specs.Pick.{pick}
@@ -13,7 +13,6 @@ use Rattle.pieces.specs.Pieces.{told, wrongLength, bothSized, opening, o
 use Rattle.pieces.specs.Pieces.{closeAnswer, closeProgress, closedLive, closedSpare}
 use Rattle.pieces.specs.declared.Progress.{Progress}
 use Rattle.pieces.specs.declared.Going.the-variants.{Come}
-use Rattle.pieces.proofs.Closing.{and-false}
 
 -- FEEDING
 module _ (p : Progress) (s : State) (l : List ℕ) where
@@ -48,7 +47,7 @@ module _ (live spare : State) where
   wrong-live e = rw e
 
   pub wrong-spare : sized spare ≡ false → bothSized live spare ≡ false
-  wrong-spare e = and-false (sized live) (sized spare) e
+  wrong-spare e = let f : (sized live && sized spare) ≡ false = rw e (and-false (sized live)) in f
 
   pub right-both : sized live ≡ true → sized spare ≡ true → bothSized live spare ≡ true
   right-both a b = rw (a, b)

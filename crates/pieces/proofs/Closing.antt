@@ -1,7 +1,7 @@
 -- A whole list, fed to a fresh reading: at the close its verdict is the list's, and the writes made are the expansion. Assumes nothing.
 use mathlib.Core.Path.{_≡_, refl, sym, _∙_}
-use mathlib.Core.Bool.{Bool, true, false, _&&_}
-use mathlib.Core.List.{List, [], _∷_, _++_, append-assoc}
+use mathlib.Core.Bool.{true, false, _&&_, and-false}
+use mathlib.Core.List.{List, [], _∷_, _++_, append-assoc, append-nil}
 use Prim.Native.Nat.{ℕ, suc, _+_, _≤_, _<_}
 use native.Mathlib.Decide.{decLt}
 use native.Mathlib.Numerals.{add-one}
@@ -19,7 +19,8 @@ use Rattle.reader.proofs.Judging.{judge-end, judge-short, verdict-of}
 use Rattle.pieces.specs.Progress.{fresh, next, makes, after, made, between, faultNumber, closing}
 use Rattle.pieces.specs.declared.Progress.{Progress}
 use Rattle.pieces.proofs.Steps.{after-none, after-more, made-none, made-more}
-use Rattle.pieces.proofs.Stands.{append-nil, Stands, at-between, at-begun, at-inside, at-end, step-on}
+use Rattle.pieces.proofs.Stands.{Stands, at-between, at-begun, at-inside, at-end}
+use Rattle.pieces.proofs.Goes.{step-on}
 
 -- THE CLOSE, by the tests that code makes
 module _ (p : Progress) where
@@ -42,15 +43,10 @@ module _ (p : Progress) where
   pub all-come : p .left ≡ 0 → p .pad ≡ 0 → p .begun ≡ 0 → between p ≡ true
   all-come a b c = rw (eq-eqb (p .left) 0 a, eq-eqb (p .pad) 0 b, eq-eqb (p .begun) 0 c)
 
-pub and-false : (a b : Bool) → b ≡ false → (a && b) ≡ false
-and-false true b e = e
-and-false false b e = refl
-
 not-all : (p : Progress) → Dec (0 < p .left) → Dec (0 < p .pad) → 0 < p .left + p .pad + p .begun → between p ≡ false
 not-all p (yes a) d h = rw (ne-eqb (p .left) 0 (λ z. omega arith))
-not-all p (no a) (yes b) h = rw (ne-eqb (p .pad) 0 (λ z. omega arith), and-false (eqb (p .left) 0) false refl)
-not-all p (no a) (no b) h =
-    and-false (eqb (p .left) 0 && eqb (p .pad) 0) (eqb (p .begun) 0) (ne-eqb (p .begun) 0 (λ z. omega arith))
+not-all p (no a) (yes b) h = rw (ne-eqb (p .pad) 0 (λ z. omega arith), and-false (eqb (p .left) 0))
+not-all p (no a) (no b) h = rw (ne-eqb (p .begun) 0 (λ z. omega arith)) (and-false (eqb (p .left) 0 && eqb (p .pad) 0))
 
 pub some-lacks : (p : Progress) → 0 < p .left + p .pad + p .begun → between p ≡ false
 some-lacks p h = not-all p (decLt 0 (p .left)) (decLt 0 (p .pad)) h
@@ -102,7 +98,8 @@ module _ (l : List ℕ) (fits : length l ≤ 65536) where
       let r : drop (suc j) l ≡ rest = cc in
       let g = step-on l fits j p ws c low s in
       rw (after-more p x rest, made-more p x rest, ← (append-assoc ws (makes p x) (made (next p x) rest)), ← e)
-      (from-word rest (j + 1) (next p (getD l j 0)) (ws ++ makes p (getD l j 0)) (rw (add-one j) r) (omega arith) (g .come) (g .stands))
+      (from-word rest (j + 1) (next p (getD l j 0)) (ws ++ makes p (getD l j 0)) (rw (add-one j) r) (omega arith) (g .come)
+      (g .stands))
 
   begin : Stands l 0 fresh []
   begin =

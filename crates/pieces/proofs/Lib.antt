@@ -1,5 +1,7 @@
 pub mod Steps
+pub mod Faults
 pub mod Stands
+pub mod Goes
 pub mod Closing
 pub mod Counts
 pub mod Makes

@@ -1,7 +1,7 @@
 -- What several words do at once: the extra parameters of a command in one run, and a whole command. Assumes nothing.
 use mathlib.Core.Path.{_≡_, refl, sym, ap, _∙_}
 use mathlib.Core.Bool.{Bool, true, false}
-use mathlib.Core.List.{List, [], _∷_, _++_, append-assoc}
+use mathlib.Core.List.{List, [], _∷_, _++_, append-assoc, append-nil}
 use Prim.Native.Nat.{ℕ, zero, suc, _+_, _-_, _%_, _≤_, _<_}
 use native.Mathlib.Numerals.{add-one}
 use native.Mathlib.Omega.{arith}
@@ -23,7 +23,23 @@ use Rattle.pieces.specs.Progress.{moved, plus, firstOf, padding, headed,
 use Rattle.pieces.specs.Leads.{Leads}
 use Rattle.pieces.specs.declared.Progress.{Progress}
 use Rattle.pieces.proofs.Steps.{Takes, takes-extra, takes-padding, takes-header, takes-first, after-more, made-more}
-use Rattle.pieces.proofs.Stands.{append-nil}
+
+-- p after some commands
+abbrev pub so-far : Progress → ℕ → ℕ → ℕ → ℕ → ℕ → ℕ → ℕ → Progress
+so-far p come place first id mask step writes =
+    record {
+      come = come;
+      place = place;
+      begun = p .begun;
+      first = first;
+      id = id;
+      mask = mask;
+      step = step;
+      left = p .left;
+      pad = p .pad;
+      writes = writes;
+      fault = p .fault;
+    }
 
 -- from the progress p before word i of a list to q before word j, by the writes ws
 pub record Way (l : List ℕ) (p : Progress) (i : ℕ) (q : Progress) (j : ℕ) (ws : List Write) : Type 0 where
@@ -46,7 +62,8 @@ module _ (l : List ℕ) where
       }
 
   -- one way after another
-  pub both-ways : (p q r : Progress) (i j k : ℕ) (ws vs : List Write) → Way l p i q j ws → Way l q j r k vs → Way l p i r k (ws ++ vs)
+  pub both-ways : (p q r : Progress) (i j k : ℕ) (ws vs : List Write) → Way l p i q j ws → Way l q j r k vs
+      → Way l p i r k (ws ++ vs)
   both-ways p q r i j k ws vs a b =
       record {
         progress = b .progress ∙ a .progress;
@@ -110,7 +127,8 @@ one-ran p x a b f s g =
     }
 
 module _ (l : List ℕ) where
-  pub ran-way : (n i : ℕ) (p : Progress) → i + n ≤ length l → p .come + n ≤ 65536 → n ≤ p .left → p .fault ≡ 0 → p .step ≤ 1
+  pub ran-way : (n i : ℕ) (p : Progress) → i + n ≤ length l → p .come + n ≤ 65536 → n ≤ p .left → p .fault ≡ 0
+      → p .step ≤ 1
       → p .id + n < 0x100000000 → Sound p n → Way l p i (ran p n) (i + n) (runFrom l i n (p .id + p .step) (p .mask) (p .step))
   ran-way zero i p a b c f d e g =
       let u : i + 0 ≡ i = omega arith in
@@ -131,7 +149,8 @@ module _ (l : List ℕ) where
       (both-ways l p (ranOne p) (ran (ranOne p) n) i (i + 1) (i + 1 + n) _ _ (by-word l p (ranOne p) i _ (omega arith) one) rest))
 
   -- with the ids of the run clear of all that is refused, and its first write apart
-  pub run-way : (n i : ℕ) (p : Progress) → 0 < n → i + n ≤ length l → p .come + n ≤ 65536 → n ≤ p .left → p .fault ≡ 0 → p .step ≤ 1
+  pub run-way : (n i : ℕ) (p : Progress) → 0 < n → i + n ≤ length l → p .come + n ≤ 65536 → n ≤ p .left → p .fault ≡ 0
+      → p .step ≤ 1
       → p .id ≤ 0xFFFF → n ≤ 256 → clear (p .id + p .step) (lastId (p .id + p .step) (n - 1) (p .step)) (p .mask) ≡ true
       → Way l p i (moved p (p .come + n) (lastId (p .id + p .step) (n - 1) (p .step)) (p .left - n) (p .pad) (p .fault)) (i + n)
       (writing (p .id + p .step) (p .mask) (getD l i 0) ∷ runFrom l (i + 1) (n - 1) (p .id + p .step + p .step) (p .mask) (p .step))
@@ -144,19 +163,8 @@ module _ (l : List ℕ) where
   -- A WHOLE COMMAND, none of whose writes is at fault
   abbrev pub commanded : Progress → ℕ → ℕ → Progress
   commanded p x h =
-      record {
-        come = p .come + wordsOf h;
-        place = p .come;
-        begun = p .begun;
-        first = x;
-        id = lastId (idOf h) (countOf h) (stepOf h);
-        mask = maskOf h;
-        step = stepOf h;
-        left = p .left;
-        pad = p .pad;
-        writes = plus (p .writes) (countOf h + 1);
-        fault = p .fault;
-      }
+      so-far p (p .come + wordsOf h) (p .come) x (lastId (idOf h) (countOf h) (stepOf h)) (maskOf h) (stepOf h)
+      (plus (p .writes) (countOf h + 1))
 
   module _ (i : ℕ) (p : Progress) (left : p .left ≡ 0) (pad : p .pad ≡ 0) (begun : p .begun ≡ 0) (fault : p .fault ≡ 0) where
     abbrev x : ℕ
@@ -234,7 +242,8 @@ module _ (l : List ℕ) where
         (both-ways l p (closed 0) (closed n) i (i + 2 + countOf h) (i + 2 + countOf h + n) _ [] (rw (c, d) at all) three)
 
 -- a way, with what its writes leave of a state
-pub leads-by : (l : List ℕ) (p q : Progress) (i j : ℕ) (s t : State) (ws : List Write) → Way l p i q j ws → i ≤ j → j ≤ length l
+pub leads-by : (l : List ℕ) (p q : Progress) (i j : ℕ) (s t : State) (ws : List Write) → Way l p i q j ws → i ≤ j
+    → j ≤ length l
     → t ≡ applyAll s ws → Leads l p i s q j t
 leads-by l p q i j s t ws w f h e =
     record {
@@ -247,7 +256,8 @@ leads-by l p q i j s t ws w f h e =
 pub leads-none : (l : List ℕ) (p : Progress) (i : ℕ) (s : State) → i ≤ length l → Leads l p i s p i s
 leads-none l p i s h = record { further = omega arith; inside = h; progress = refl; state = refl }
 
-pub leads-on : (l : List ℕ) (p q r : Progress) (i j k : ℕ) (s t u : State) → Leads l p i s q j t → Leads l q j t r k u → Leads l p i s r k u
+pub leads-on : (l : List ℕ) (p q r : Progress) (i j k : ℕ) (s t u : State) → Leads l p i s q j t → Leads l q j t r k u
+    → Leads l p i s r k u
 leads-on l p q r i j k s t u a b =
     record {
       further = omega (arith, a .further, b .further);

@@ -45,7 +45,8 @@ module _ (s : ℕ) (is ms vs : List ℕ) (j next mask : ℕ) (e : length is ≡ 
   chain-step = rw (writes-at is ms vs j e f h) (chain-cons s here rest ∙ by-next (decLt (j + 1) (length is)))
 
 -- the same of what the code finds
-pub chain-linked : (s : ℕ) (is ms vs : List ℕ) (m j next mask n r : ℕ) → length is ≡ length ms → length is ≡ length vs → m ≡ j + 1
+pub chain-linked : (s : ℕ) (is ms vs : List ℕ) (m j next mask n r : ℕ) → length is ≡ length ms → length is ≡ length vs
+    → m ≡ j + 1
     → j < length is → (m < length is → (next ≡ getD is m 0) × (mask ≡ getD ms m 0)) → n ≡ chain s (drop m (writes is ms vs))
     → r ≡ pick (eqb next (getD is j 0 + s) && eqb mask (getD ms j 0)) (n + 1) 1 → r ≡ chain s (drop j (writes is ms vs))
 chain-linked s is ms vs m j next mask n r e f g h held p q =
@@ -78,7 +79,8 @@ other-apart next id step e = go (eqb next (id + 1)) refl
 
 -- the chain by the step found goes on as it was by that step, or one write does
 pub chain-on : (ws : List Write) (m was run next id step rest : ℕ) → was < 2 → run ≡ chain was (drop m ws)
-    → (m < length ws → chain (1 - was) (drop m ws) ≡ 1) → (length ws ≤ m → (was ≡ 0) × (next ≡ 0)) → step ≡ pick (eqb next (id + 1)) 1 0
+    → (m < length ws → chain (1 - was) (drop m ws) ≡ 1) → (length ws ≤ m → (was ≡ 0) × (next ≡ 0))
+    → step ≡ pick (eqb next (id + 1)) 1 0
     → rest ≡ pick (eqb step was) run 1 → rest ≡ chain step (drop m ws)
 chain-on ws m was run next id step rest w p other end e f = go (eqb step was) refl
   where
@@ -94,14 +96,16 @@ chain-on ws m was run next id step rest w p other end e f = go (eqb step was) re
     go false t = f ∙ rw t (apart (eqb-false step was t) (decLt m (length ws)))
 
 -- by the other step the write is alone
-pub chain-apart : (is ms vs : List ℕ) (m j next mask step : ℕ) → length is ≡ length ms → length is ≡ length vs → m ≡ j + 1 → j < length is
+pub chain-apart : (is ms vs : List ℕ) (m j next mask step : ℕ) → length is ≡ length ms → length is ≡ length vs → m ≡ j + 1
+    → j < length is
     → (m < length is → (next ≡ getD is m 0) × (mask ≡ getD ms m 0)) → step ≡ pick (eqb next (getD is j 0 + 1)) 1 0
     → chain (1 - step) (drop j (writes is ms vs)) ≡ 1
 chain-apart is ms vs m j next mask step e f g h held p =
     chain-step (1 - step) is ms vs j next mask e f h (rw g at held) ∙ rw (other-apart next (getD is j 0) step p)
 
 -- the span is the longer of the two
-pub span-run : (l : List Write) (step run : ℕ) → step < 2 → 1 ≤ run → run ≡ chain step l → chain (1 - step) l ≡ 1 → min 256 run ≡ span l
+pub span-run : (l : List Write) (step run : ℕ) → step < 2 → 1 ≤ run → run ≡ chain step l → chain (1 - step) l ≡ 1
+    → min 256 run ≡ span l
 span-run l zero run h s p o = omega (arith, span-is l run 1 p (sym o))
 span-run l (suc zero) run h s p o = omega (arith, span-is l 1 run (sym o) p)
 span-run l (suc (suc step)) run h s p o = absurd (omega arith)

@@ -81,12 +81,16 @@ module _ (l : List ℕ) (at : ℕ) where
 
   module _ (k : ℕ) (is₀ ms₀ vs₀ : List ℕ) where
     pub put-none : Put k 0 is₀ ms₀ vs₀ is₀ ms₀ vs₀
-    put-none = record { ids = paste-zero is₀ k (idsIn E); masks = paste-zero ms₀ k (masksIn E); values = paste-zero vs₀ k (valuesIn E) }
+    put-none =
+        record { ids = paste-zero is₀ k (idsIn E); masks = paste-zero ms₀ k (masksIn E); values = paste-zero vs₀ k (valuesIn E) }
 
-    module _ (room : k + (countOf h + 1) ≤ length is₀) (level : (length is₀ ≡ length ms₀) × (length is₀ ≡ length vs₀)) where
+    module _ (room : k + (countOf h + 1) ≤ length is₀)
+        (level : (length is₀ ≡ length ms₀) × (length is₀ ≡ length vs₀)) where
       -- one write more, in its place p
-      pub put-next : (is ms vs : List ℕ) (j p n i m v : ℕ) → p ≡ k + j → n ≡ j + 1 → j ≤ countOf h → i ≡ getD (idsIn E) j 0 → m ≡ maskOf h
-          → v ≡ paramAt l at j → Put k j is₀ ms₀ vs₀ is ms vs → Put k n is₀ ms₀ vs₀ (set is p i) (set ms p m) (set vs p v)
+      pub put-next : (is ms vs : List ℕ) (j p n i m v : ℕ) → p ≡ k + j → n ≡ j + 1 → j ≤ countOf h
+          → i ≡ getD (idsIn E) j 0 → m ≡ maskOf h
+          → v ≡ paramAt l at j → Put k j is₀ ms₀ vs₀ is ms vs
+          → Put k n is₀ ms₀ vs₀ (set is p i) (set ms p m) (set vs p v)
       put-next is ms vs j p n i m v e g q a b c P =
           record {
             ids = row-next (λ (w : Write). w .id) is₀ k room is j p n i e g q a (P .ids);
@@ -95,7 +99,8 @@ module _ (l : List ℕ) (at : ℕ) where
           }
 
       -- its first n writes, put over buffers in which its first stands already, are put over those before
-      module _ (is₁ ms₁ vs₁ : List ℕ) (P : Put k 1 is₀ ms₀ vs₀ is₁ ms₁ vs₁) (n : ℕ) (p : 1 ≤ n) (q : n ≤ countOf h + 1) where
+      module _ (is₁ ms₁ vs₁ : List ℕ) (P : Put k 1 is₀ ms₀ vs₀ is₁ ms₁ vs₁)
+          (n : ℕ) (p : 1 ≤ n) (q : n ≤ countOf h + 1) where
         ids-over : paste is₁ k (idsIn E) n ≡ paste is₀ k (idsIn E) n
         ids-over = row-over (λ (w : Write). w .id) is₀ k room is₁ n (P .ids) p q
 

@@ -1,7 +1,7 @@
 -- The invariant: the commands so far lead from the first to here. Assumes nothing.
 use mathlib.Core.Path.{_≡_}
 use mathlib.Core.Bool.{true}
-use Prim.Native.Nat.{ℕ, _+_, _-_, _*_, _/_, _≤_, _<_}
+use Prim.Native.Nat.{_+_, _-_, _*_, _/_, _≤_, _<_}
 use native.Mathlib.Omega.{arith}
 use lib.ListN.{length, getD}
 use borrow.Author.Needs.{needs}
@@ -11,34 +11,17 @@ use Rattle.registers.specs.State.{st}
 use Rattle.commands.specs.Clear.{lastId, clear}
 use Rattle.commands.proofs.Clearing.{clear-fault}
 use Rattle.pieces.specs.Leads.{Leads}
-use Rattle.pieces.specs.declared.Progress.{Progress}
-use Rattle.pieces.proofs.Ways.{command-way, leads-by, leads-none, leads-on}
+use Rattle.pieces.proofs.Ways.{so-far, command-way, leads-by, leads-none, leads-on}
 use Rattle.pieces.proofs.Choices.{whole-facts}
 use Rattle.pieces.proofs.parts.take_commands.Statement.{statement}
 use Rattle.pieces.proofs.parts.take_commands.Tie as tie
-
--- p after some commands
-abbrev so-far : Progress → ℕ → ℕ → ℕ → ℕ → ℕ → ℕ → ℕ → Progress
-so-far p come place first id mask step writes =
-    record {
-      come = come;
-      place = place;
-      begun = p .begun;
-      first = first;
-      id = id;
-      mask = mask;
-      step = step;
-      left = p .left;
-      pad = p .pad;
-      writes = writes;
-      fault = p .fault;
-    }
 
 abbrev Inv-commands : tie.InvT-commands
 Inv-commands p cells₀ fog₀ light₀ slots held part at come₀ place₀ first₀ id₀ mask₀ step₀ writes₀ i₀
     cells fog light come place first id mask step writes i =
     (length cells ≡ 768) × (length fog ≡ 128) × (length light ≡ 6144)
-    × Leads part p at (st cells₀ fog₀ light₀) (so-far p come place first id mask step writes) i (st cells fog light) × (come < 0x100000000)
+    × Leads part p at (st cells₀ fog₀ light₀) (so-far p come place first id mask step writes) i (st cells fog light)
+    × (come < 0x100000000)
 
 abbrev μ-commands : tie.MeasureT-commands
 μ-commands p cells₀ fog₀ light₀ slots held part at come₀ place₀ first₀ id₀ mask₀ step₀ writes₀ i₀
