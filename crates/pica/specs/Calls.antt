@@ -25,7 +25,7 @@ answer (refused r p) = call r p
 
 -- pica_read, pica_close: how many writes made a difference, in one word; untouched on a refusal
 abbrev pub differencesAfter : Answers → List ℕ → List ℕ
-differencesAfter (both n d) old = d % 0x100000000 ∷ []
+differencesAfter (both n d) old = d ∷ []
 differencesAfter (neither r p) old = old
 
 -- pica_decode: 0, and one word a field; untouched on a refusal
