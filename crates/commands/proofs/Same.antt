@@ -1,5 +1,5 @@
 -- A command to one id that is no port's data: of its values the last decides, and each counts that changes the cell. Assumes nothing.
-use mathlib.Core.Path.{_≡_, refl, _∙_}
+use mathlib.Core.Path.{_≡_, refl, sym, ap, _∙_}
 use mathlib.Core.Bool.{false, not}
 use mathlib.Core.List.{List}
 use Prim.Native.Nat.{ℕ, zero, suc, _+_, _-_, _^_, _<_}
@@ -8,6 +8,7 @@ use lib.Bits.{bitAnd, and-le-r}
 use lib.Dec.{eqb}
 use lib.ListN.{length, getD, set, length-set}
 use lib.Seq.{getD-set-same, set-set}
+use borrow.Author.Tests.{ne-eqb}
 use Rattle.numbers.specs.Bits.{bit, spread, merge, pickBit}
 use Rattle.numbers.specs.Pick.{pick}
 use Rattle.numbers.proofs.Merge.{bits-equal, merge-bit, merge-word}
@@ -20,7 +21,10 @@ use Rattle.registers.proofs.Puts.{put-held, put-free}
 use Rattle.registers.proofs.Differences.{differs-held, differs-free}
 use Rattle.commands.specs.Run.{runFrom, runWith}
 use Rattle.commands.specs.ToOne.{ToOne}
-use Rattle.commands.proofs.Applying.{run-applied, same-first, same-applies, same-counts, same-first-counts, same-alike-counts}
+use Rattle.commands.specs.Changes.{change, changes}
+use Rattle.commands.proofs.Changes.{changes-none, changes-next}
+use Rattle.commands.proofs.Applying.{run-applied, run-counted, same-first, same-applies}
+use Rattle.commands.proofs.Applying.{same-counts, same-first-counts, same-alike-counts}
 
 -- of replacements in the same bits the last decides
 pick-last : (e o a b : ℕ) → pickBit e b (pickBit e a o) ≡ pickBit e b o
@@ -33,6 +37,13 @@ merge-last e old a b h =
     (λ k t.
     merge-bit k e (merge e old a) b h t
     ∙ rw (merge-bit k e old a h t, merge-bit k e old b h t) (pick-last (bit k e) (bit k old) (bit k a) (bit k b)))
+
+-- the last of n + 1 values from j on is the last of n from j + 1 on, or the one at j
+last-next : (l : List ℕ) (j n : ℕ) → pick (eqb n 0) (getD l j 0) (getD l (j + 1 + n - 1) 0) ≡ getD l (j + suc n - 1) 0
+last-next l j zero = let e : j ≡ j + 1 - 1 = omega arith in ap (λ k. getD l k 0) e
+last-next l j (suc n) =
+    let e : j + 1 + suc n - 1 ≡ j + suc (suc n) - 1 = omega arith in
+    rw (ne-eqb (suc n) 0 (λ z. omega arith)) (ap (λ k. getD l k 0) e)
 
 module _ (h : Header) (o : ToOne h) (l : List ℕ) where
   abbrev id : ℕ
@@ -63,51 +74,60 @@ module _ (h : Header) (o : ToOne h) (l : List ℕ) where
   free-counts z s v j =
       same-alike-counts h (o .one) false (λ t x. differs-free t id (spread (h .mask)) x (o .noFog) (o .noLight) z) s v l j
 
-  -- HELD: write by write, c being what the cell holds before a write. A value may as well go into the cell as it was at first
-  module _ (some : bitsOf id ≡ 0 → ⊥) (cells : List ℕ) (b : id < length cells) where
+  -- HELD: the last value decides
+  module _ (some : bitsOf id ≡ 0 → ⊥) (cells fog light : List ℕ) (b : id < length cells) where
     abbrev old : ℕ
     old = getD cells id 0
 
-    abbrev pub Since : ℕ → Type 0
-    Since c = (x : ℕ) → merge e c x ≡ merge e old x
+    -- the state where the cell has taken v
+    abbrev with : ℕ → State
+    with v = st (set cells id (merge e old v)) fog light
 
-    pub since-merged : (v : ℕ) → Since (merge e old v)
-    since-merged v x = merge-last e old v x (omega (arith, and-le-r (bitsOf id) (spread (h .mask))))
+    e-word : e < 2 ^ 32
+    e-word = omega (arith, and-le-r (bitsOf id) (spread (h .mask)))
 
-    -- 1 where a write changes c into d
-    abbrev step : ℕ → ℕ → ℕ
-    step c d = pick (not (eqb d c)) 1 0
+    -- one more write
+    puts : (v x : ℕ) → put (with v) id (spread (h .mask)) x ≡ with x
+    puts v x =
+        put-held (with v) id (spread (h .mask)) x some
+        ∙ rw (getD-set-same cells id (merge e old v) 0 b, set-set cells id (merge e old v), merge-last e old v x e-word)
 
-    module _ (fog light : List ℕ) where
-      abbrev holding : ℕ → State
-      holding c = st (set cells id c) fog light
+    tells : (v x : ℕ) → differs (with v) id (spread (h .mask)) x ≡ not (eqb (merge e old x) (merge e old v))
+    tells v x =
+        differs-held (with v) id (spread (h .mask)) x some (simp length-set b)
+        ∙ rw (getD-set-same cells id (merge e old v) 0 b, merge-last e old v x e-word)
 
-      pub held-first : (v j : ℕ)
-          → applyAll (st cells fog light) (runWith h v l j) ≡ applyAll (holding (merge e old v)) (rest j (h .count))
-      held-first v j =
-          same-first h (o .one) (st cells fog light) v l j ∙ rw (put-held (st cells fog light) id (spread (h .mask)) v some)
+    held-run : (v j n : ℕ) → applyAll (with v) (rest j n) ≡ with (pick (eqb n 0) v (getD l (j + n - 1) 0))
+    held-run v j zero = run-applied l (h .mask) _ j 0 id 0 (omega arith)
+    held-run v j (suc n) =
+        let m : suc n - 1 ≡ n = omega arith in
+        same-applies l (h .mask) (with v) j (suc n) id (omega arith)
+        ∙ rw (m, puts v (getD l j 0), ne-eqb (suc n) 0 (λ z. omega arith), ← last-next l j n) (held-run (getD l j 0) (j + 1) n)
 
-      pub held-first-counts : (v j : ℕ)
-          → differences (st cells fog light) (runWith h v l j)
-          ≡ step old (merge e old v) + differences (holding (merge e old v)) (rest j (h .count))
-      held-first-counts v j =
-          same-first-counts h (o .one) (st cells fog light) v l j
-          ∙ rw (put-held (st cells fog light) id (spread (h .mask)) v some, differs-held (st cells fog light) id (spread (h .mask)) v some b)
+    pub held-command : (v j : ℕ)
+        → applyAll (st cells fog light) (runWith h v l j) ≡ with (pick (eqb (h .count) 0) v (getD l (j + h .count - 1) 0))
+    held-command v j =
+        same-first h (o .one) (st cells fog light) v l j
+        ∙ rw (put-held (st cells fog light) id (spread (h .mask)) v some) (held-run v j (h .count))
 
-      module _ (c : ℕ) (k : Since c) (j n : ℕ) (p : 0 < n) where
-        abbrev v : ℕ
-        v = getD l j 0
+    -- as many writes made a difference as values change the cell
+    run-changes : (v j n : ℕ) → differences (with v) (rest j n) ≡ changes e old (merge e old v) l j n
+    run-changes v j zero =
+        run-counted l (h .mask) (with v) j 0 id 0 (omega arith) ∙ sym (changes-none e old l (merge e old v) j 0 (omega arith))
+    run-changes v j (suc n) =
+        let m : suc n - 1 ≡ n = omega arith in
+        let x = getD l j 0 in
+        same-counts l (h .mask) (with v) j (suc n) id (omega arith)
+        ∙ rw (m, puts v x, tells v x, run-changes x (j + 1) n)
+        (sym (rw m at (changes-next e old l (merge e old v) j (suc n) (omega arith))))
 
-        puts : put (holding c) id (spread (h .mask)) v ≡ holding (merge e old v)
-        puts = put-held (holding c) id (spread (h .mask)) v some ∙ rw (getD-set-same cells id c 0 b, set-set cells id c, k v)
-
-        tells : differs (holding c) id (spread (h .mask)) v ≡ not (eqb (merge e old v) c)
-        tells =
-            differs-held (holding c) id (spread (h .mask)) v some (simp length-set b) ∙ rw (getD-set-same cells id c 0 b, k v)
-
-        pub held-next : applyAll (holding c) (rest j n) ≡ applyAll (holding (merge e old v)) (rest (j + 1) (n - 1))
-        held-next = same-applies l (h .mask) (holding c) j n id p ∙ rw puts
-
-        pub held-next-counts : differences (holding c) (rest j n)
-            ≡ step c (merge e old v) + differences (holding (merge e old v)) (rest (j + 1) (n - 1))
-        held-next-counts = same-counts l (h .mask) (holding c) j n id p ∙ rw (puts, tells)
+    pub held-counts : (v j : ℕ)
+        → differences (st cells fog light) (runWith h v l j)
+        ≡ change old (merge e old v) + changes e old (merge e old v) l j (h .count)
+    held-counts v j =
+        same-first-counts h (o .one) (st cells fog light) v l j
+        ∙ rw (
+          put-held (st cells fog light) id (spread (h .mask)) v some,
+          differs-held (st cells fog light) id (spread (h .mask)) v some b,
+          run-changes v j (h .count),
+        )

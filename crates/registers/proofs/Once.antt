@@ -2,7 +2,7 @@
 -- buffers, are equal. Assumes nothing.
 use mathlib.Core.Path.{_≡_, refl, ap}
 use mathlib.Core.Bool.{Bool, true, false, not}
-use Prim.Native.Nat.{ℕ}
+use Prim.Native.Nat.{ℕ, _+_}
 use native.Mathlib.Omega.{arith}
 use contract.Lifetimes.{Lfts}
 use borrow.Fn.Kinds.{Dens}
@@ -72,7 +72,8 @@ put-one-settled κs a =
     let id = a .1 .1 .1 .1 .1 .0 in
     let bytes = a .1 .1 .1 .1 .1 .1 .0 in
     let value = a .1 .1 .1 .1 .1 .1 .1 .0 in
-    settled _ _ (λ r. r) (λ r r′ e. e) (pick (differs s id bytes value) 1 0) (put s id bytes value) (λ r e p. (p .0 .0, p .1))
+    let n = a .1 .1 .1 .1 .1 .1 .1 .1 .0 in
+    settled _ _ (λ r. r) (λ r r′ e. e) (n + pick (differs s id bytes value) 1 0) (put s id bytes value) (λ r e p. (p .0 .0, p .1))
 
 pub changed-settled : (κs : Lfts 0) (a : Dens κs changed-kinds.ps) → Settles (λ e. tt {0}) (changed.Post κs a)
 changed-settled κs a =

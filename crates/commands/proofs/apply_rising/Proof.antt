@@ -49,21 +49,12 @@ shared-slice-read-put-one : tie.Need-shared-slice-read-put-one Inv-loop μ-loop
 shared-slice-read-put-one c = search needs
 
 put-one-requires-2 : tie.Need-put-one-requires-2 Inv-loop μ-loop
-put-one-requires-2 c κs = search needs
-
-add-n : tie.Need-add-n Inv-loop μ-loop
-add-n c =
-    let at-put-one2 = c .before .before .before .before .before .before in
-    let at-loop = at-put-one2 .before .before .before .before .before .before in
+put-one-requires-2 c κs =
+    let at-loop = c .before .before .before .before .before in
     let at-put-one = at-loop .before .before .before .before .before .before .before .before in
     let at-start = at-put-one .before .before .before .before .before .before .before .before .before in
-    omega (
-      arith,
-      at-put-one2 .put-one2 .ensures .0 .1,
-      at-loop .loop .inv .4,
-      at-put-one .put-one .ensures .0 .1,
-      at-start .pre .1 .1,
-    )
+    let o = at-loop .loop in
+    (o .inv .0, at-start .pre .0 .1, omega (arith, o .inv .4, at-put-one .put-one .ensures .0 .1, at-start .pre .1 .1))
 
 add-j : tie.Need-add-j Inv-loop μ-loop
 add-j c =
@@ -153,7 +144,6 @@ apply-rising-spec =
     mul-put-one
     shared-slice-read-put-one
     put-one-requires-2
-    add-n
     add-j
     add-id-2
     sub-left

@@ -80,7 +80,7 @@ apply-run-requires c κs =
     let n = full-next (at-start .args .list .now) (o .at) (at-loop-test .loop-test .taken) (o .inv .1) in
     let h = at-parts .parts .ensures in (
       (o .inv .0, (at-slot-table .slot-table .ensures, at-held-table .held-table .ensures)),
-      (omega (arith, h .0), omega (arith, h .2), omega (arith, h .3), omega (arith, h .2, n .0)),
+      (omega (arith, h .0), omega (arith, h .2), omega (arith, h .3), omega (arith, h .2, n .0), omega arith),
     )
 
 add-n : tie.Need-add-n Inv-loop μ-loop

@@ -96,7 +96,7 @@ put-one-requires c κs =
     let a = at-start .args in
     let s = st (a .cells .now) (a .fog .now) (a .light .now) in
     let k = lengths s (sym (at-is-sized .is-sized .ensures) ∙ not-false _ (at-if1 .if1 .left)) in
-    (k, (at-slot-table .slot-table .ensures, at-held-table .held-table .ensures))
+    (k, (at-slot-table .slot-table .ensures, at-held-table .held-table .ensures), omega arith)
 
 same-length-10 : tie.Need-same-length-10
 same-length-10 c = search needs
@@ -123,7 +123,7 @@ returns-4 c =
     let k = sym (at-is-sized .is-sized .ensures) ∙ not-false _ (at-if1 .if1 .left) in
     let d = write-done s w (fault-refusal s w k (at-if2 .if2 .left) ∙ sym (at-fault .fault .ensures) ∙ at-if3 .if3 .left) in
     let p = rw (at-spread-mask .spread-mask .ensures) at (at-put-one .put-one .ensures) in
-    (ap answered (difference-told s w _ (p .0 .0)) ∙ d .0, p .1 ∙ d .1)
+    (ap answered (difference-told s w _ (p .0 .0 ∙ omega arith)) ∙ d .0, p .1 ∙ d .1)
 
 pub write-spec : {M : Type 1} → statement M
 write-spec =
