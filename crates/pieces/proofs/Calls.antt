@@ -7,11 +7,11 @@ use Rattle.numbers.specs.Pick.{pick}
 use Rattle.numbers.specs.Answer.{answered, refused}
 use Rattle.registers.specs.State.{State, sized}
 use Rattle.registers.specs.Applied.{applyAll}
-use Rattle.pieces.specs.Progress.{fresh, after, made, heldAt, counted, closing}
+use Rattle.parts.specs.Progress.{fresh, after, made, heldAt, counted, closing}
 use Rattle.copies.specs.Copy.{taken}
 use Rattle.pieces.specs.Pieces.{told, wrongLength, bothSized, opening, openAnswer, openedSpare, feeding, feedAnswer, fedSpare}
 use Rattle.pieces.specs.Pieces.{closeAnswer, closeProgress, closedLive, closedSpare}
-use Rattle.pieces.specs.declared.Progress.{Progress}
+use Rattle.parts.specs.declared.Progress.{Progress}
 use Rattle.pieces.specs.declared.Going.the-variants.{Come}
 
 -- FEEDING

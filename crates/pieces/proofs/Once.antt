@@ -10,9 +10,9 @@ use Rattle.registers.specs.State.{State, st}
 use Rattle.reader.specs.Read.{told}
 use Rattle.reader.specs.declared.ListVerdict.{ListVerdict}
 use Rattle.reader.proofs.Once.{told-one}
-use Rattle.pieces.specs.Progress.{fresh}
+use Rattle.parts.specs.Progress.{fresh}
 use Rattle.pieces.specs.Pieces.{opening, openedSpare, feeding, fedSpare, closeAnswer, closeProgress, closedLive, closedSpare}
-use Rattle.pieces.specs.declared.Progress.{Progress}
+use Rattle.parts.specs.declared.Progress.{Progress}
 use Rattle.pieces.specs.declared.Closed.{Closed}
 use Rattle.pieces.proofs.fresh_progress.Reads as fresh-progress
 use Rattle.pieces.proofs.fresh_progress.Kinds as fresh-progress-kinds

@@ -1,40 +1,16 @@
 // A list that arrives in pieces: a reader that is opened, fed parts cut anywhere, and closed. It works on a spare state that is lent beside
-// the live one. The contracts cite specs/Progress.antt and specs/Pieces.antt.
+// the live one. The contracts cite specs/Pieces.antt, and specs/Progress.antt of `parts`.
 ghost use mathlib.Core.Path.{_≡_};
 ghost use Rattle.numbers.specs.Answer.{refused};
 ghost use Rattle.registers.specs.State.{st};
 ghost use Rattle.reader.specs.Read.{told};
-ghost use Rattle.pieces.specs.Progress.{fresh, counted, closing, faultNumber};
+ghost use Rattle.parts.specs.Progress.{fresh, counted, closing, faultNumber};
 ghost use Rattle.pieces.specs.Pieces as going;
 ghost use Rattle.pieces.specs.Pieces.{opening, openAnswer, openedSpare, feeding, feedAnswer, fedSpare};
 ghost use Rattle.pieces.specs.Pieces.{closeAnswer, closeProgress, closedLive, closedSpare};
+use parts::Progress;
 use reader::ListVerdict;
 use words::Refusal;
-
-mod parts;
-
-// How far a reading has come: what the words so far leave for the next one to go by.
-pub struct Progress {
-    // the words that have come, held at 65,537
-    pub come: u32,
-    // the first word of the present command, counted from the list's start
-    pub place: u32,
-    // 1 where the command's first parameter has come and its header hasn't
-    pub begun: u32,
-    // that parameter
-    pub first: u32,
-    // the id of the last write, the mask, and by how much ids rise
-    pub id: u32,
-    pub mask: u32,
-    pub step: u32,
-    // the extra parameters and the padding words that are still to come
-    pub left: u32,
-    pub pad: u32,
-    // the writes of all headers so far
-    pub writes: u32,
-    // the number of the first fault, 0 for none
-    pub fault: u32,
-}
 
 // A reading of which no word has come.
 pub fn fresh_progress() -> Progress
