@@ -39,6 +39,7 @@ so-far p come place first id mask step writes =
       pad = p .pad;
       writes = writes;
       fault = p .fault;
+      differences = p .differences;
     }
 
 -- from the progress p before word i of a list to q before word j, by the writes ws
@@ -188,6 +189,7 @@ module _ (l : List ℕ) where
           pad = (2 + countOf h) % 2;
           writes = plus (p .writes) (countOf h + 1);
           fault = 0;
+          differences = p .differences;
         }
 
     header-way : i + 2 ≤ length l → p .come + 2 ≤ 65536 → faultOf (idOf h) (maskOf h) ≡ 0

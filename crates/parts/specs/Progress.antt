@@ -1,5 +1,5 @@
 -- How far a reading has come, word by word: what each word of a list does to the progress, and the writes that it makes. The progress is
--- all that a reader keeps, eleven numbers of 32 bits:
+-- all that a reader keeps, twelve numbers of 32 bits:
 --   come    the words that have come, held at 65,537
 --   place   the first word of the command that is followed, counted from the list's start
 --   begun   1 where its first parameter has come and its header hasn't
@@ -11,7 +11,8 @@
 --   pad     its padding words that are still to come
 --   writes  the writes of all commands whose headers have come
 --   fault   the number of the first fault, 0 for none; after a command at fault none is followed
--- Any eleven numbers may come in: a progress that no call made goes on by the same rules. There a step may be any number, and a mask above
+--   differences  how many of the writes made so far made a difference: words alone don't tell, so no word moves it, and a feeding adds to it
+-- Any twelve numbers may come in: a progress that no call made goes on by the same rules. There a step may be any number, and a mask above
 -- 15 counts by its low four bits, but isn't Fh, so that port data is refused under it.
 use mathlib.Core.Bool.{Bool, _&&_}
 use mathlib.Core.List.{List, [], _∷_, _++_}
@@ -26,7 +27,20 @@ use Rattle.parts.specs.declared.Progress.{Progress}
 -- no word has come
 abbrev pub fresh : Progress
 fresh =
-    record { come = 0; place = 0; begun = 0; first = 0; id = 0; mask = 0; step = 0; left = 0; pad = 0; writes = 0; fault = 0 }
+    record {
+      come = 0;
+      place = 0;
+      begun = 0;
+      first = 0;
+      id = 0;
+      mask = 0;
+      step = 0;
+      left = 0;
+      pad = 0;
+      writes = 0;
+      fault = 0;
+      differences = 0;
+    }
 
 -- a sum in a field of 32 bits; of a reading that was opened no sum comes near. The words that have come are below 65,536 where one is added
 abbrev pub plus : ℕ → ℕ → ℕ
@@ -51,6 +65,7 @@ moved p come id left pad fault =
       pad = pad;
       writes = p .writes;
       fault = fault;
+      differences = p .differences;
     }
 
 -- A WORD COMES, and is one past the limit of 65,536: the words that have come are held at 65,537, and nothing more is done
@@ -82,6 +97,7 @@ headed p h =
       pad = (2 + countOf h) % 2;
       writes = plus (p .writes) (countOf h + 1);
       fault = firstOf (p .fault) (faultOf (idOf h) (maskOf h));
+      differences = p .differences;
     }
 
 -- or the first parameter of the next command, whose place it is
@@ -99,6 +115,7 @@ started p x =
       pad = p .pad;
       writes = p .writes;
       fault = p .fault;
+      differences = p .differences;
     }
 
 -- or one after a command at fault: it counts, and nothing more
@@ -147,6 +164,24 @@ heldAt n = pick (ltb 65536 n) 65537 n
 
 abbrev pub counted : Progress → Progress
 counted p = moved p (heldAt (p .come)) (p .id) (p .left) (p .pad) (p .fault)
+
+-- p with this many differences, the rest as it was
+abbrev pub tallied : Progress → ℕ → Progress
+tallied p d =
+    record {
+      come = p .come;
+      place = p .place;
+      begun = p .begun;
+      first = p .first;
+      id = p .id;
+      mask = p .mask;
+      step = p .step;
+      left = p .left;
+      pad = p .pad;
+      writes = p .writes;
+      fault = p .fault;
+      differences = d;
+    }
 
 -- no word of the command that is followed is still to come
 abbrev pub between : Progress → Bool

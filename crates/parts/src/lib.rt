@@ -34,6 +34,8 @@ pub struct Progress {
     pub writes: u32,
     // the number of the first fault, 0 for none
     pub fault: u32,
+    // how many of the writes made so far made a difference
+    pub differences: u32,
 }
 
 // The first fault: the one so far, or that of a write to `id` under `mask`.
@@ -323,6 +325,7 @@ fn take_commands(
             pad: p.pad,
             writes,
             fault: p.fault,
+            differences: p.differences,
         },
         at: i,
     }

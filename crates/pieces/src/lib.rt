@@ -28,6 +28,7 @@ pub fn fresh_progress() -> Progress
         pad: 0,
         writes: 0,
         fault: 0,
+        differences: 0,
     }
 }
 
