@@ -11,7 +11,7 @@
 --   pad     its padding words that are still to come
 --   writes  the writes of all commands whose headers have come
 --   fault   the number of the first fault, 0 for none; after a command at fault none is followed
---   differences  how many of the writes made so far made a difference: words alone don't tell, so no word moves it, and a feeding adds to it
+--   differences  how many of the writes made so far made a difference: words alone don't tell, so no word moves it; a feeding adds to it
 -- Any twelve numbers may come in: a progress that no call made goes on by the same rules. There a step may be any number, and a mask above
 -- 15 counts by its low four bits, but isn't Fh, so that port data is refused under it.
 use mathlib.Core.Bool.{Bool, _&&_}
