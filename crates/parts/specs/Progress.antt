@@ -11,9 +11,10 @@
 --   pad     its padding words that are still to come
 --   writes  the writes of all commands whose headers have come
 --   fault   the number of the first fault, 0 for none; after a command at fault none is followed
---   differences  how many of the writes made so far made a difference: words alone don't tell, so no word moves it; a feeding adds to it
+--   differences
+--           how many of the writes made so far made a difference. Words alone don't tell: all below keeps it, and feeding adds to it
 -- Any twelve numbers may come in: a progress that no call made goes on by the same rules. There a step may be any number, and a mask above
--- 15 counts by its low four bits, but isn't Fh, so that port data is refused under it.
+-- 15 counts by its low four bits, but isn't Fh, so that port data is refused under it; and its differences may be more than its writes.
 use mathlib.Core.Bool.{Bool, _&&_}
 use mathlib.Core.List.{List, [], _∷_, _++_}
 use Prim.Native.Nat.{ℕ, _+_, _-_, _%_}
@@ -131,7 +132,7 @@ byWord p ifPast ifExtra ifPadding ifHeader ifFirst ifPassed =
     (pick (ltb 0 (p .begun)) ifHeader
     (pick (eqb (p .fault) 0) ifFirst ifPassed))))
 
--- THE PROGRESS AFTER ONE WORD
+-- THE PROGRESS AFTER ONE WORD, but for its differences
 unfoldable pub next : Progress → ℕ → Progress
 next p x = byWord p (past p) (extra p) (padding p) (headed p x) (started p x) (passed p)
 
@@ -149,7 +150,7 @@ makes p x =
     []
     []
 
--- THE PROGRESS AFTER A PART, word by word, and the writes that the part makes
+-- THE PROGRESS AFTER A PART, word by word, but for its differences; and the writes that the part makes
 unfoldable pub after : Progress → List ℕ → Progress
 after p [] = p
 after p (x ∷ l) = after (next p x) l

@@ -3,7 +3,7 @@
 use mathlib.Core.List.{List, [], _∷_}
 use Prim.Native.Nat.{ℕ, _+_, _*_, _%_}
 use lib.ListN.{getD}
-use Rattle.numbers.specs.Answer.{Answer, answered, refused}
+use Rattle.numbers.specs.Answer.{Answer, answered, refused, Answers, both, neither}
 use Rattle.registers.specs.State.{State}
 use Rattle.settings.specs.Colours.{colourOf, wordOf}
 use Rattle.settings.specs.Flat.{flat}
@@ -22,6 +22,11 @@ call number value = number * 0x100000000 + value % 0x100000000
 abbrev pub answer : Answer → ℕ
 answer (answered n) = call 0 n
 answer (refused r p) = call r p
+
+-- pica_read, pica_close: how many writes made a difference, in one word; untouched on a refusal
+abbrev pub differencesAfter : Answers → List ℕ → List ℕ
+differencesAfter (both n d) old = d ∷ []
+differencesAfter (neither r p) old = old
 
 -- pica_decode: 0, and one word a field; untouched on a refusal
 abbrev pub decodeCall : Decoded → ℕ

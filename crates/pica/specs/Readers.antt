@@ -1,5 +1,5 @@
--- The reader of a list that arrives in pieces, as the eleven words that a C caller keeps: the progress of the reading, its fields in their
--- order. Any eleven words are a progress.
+-- The reader of a list that arrives in pieces, as the twelve words that a C caller keeps: the progress of the reading, its fields in their
+-- order. Any twelve words are a progress.
 use mathlib.Core.List.{List, [], _∷_}
 use Prim.Native.Nat.{ℕ}
 use lib.ListN.{getD}
@@ -21,11 +21,13 @@ progressOf ws =
       pad = getD ws 8 0;
       writes = getD ws 9 0;
       fault = getD ws 10 0;
+      differences = getD ws 11 0;
     }
 
 abbrev pub wordsOf : Progress → List ℕ
 wordsOf p =
-    p .come ∷ p .place ∷ p .begun ∷ p .first ∷ p .id ∷ p .mask ∷ p .step ∷ p .left ∷ p .pad ∷ p .writes ∷ p .fault ∷ []
+    p .come ∷ p .place ∷ p .begun ∷ p .first ∷ p .id ∷ p .mask ∷ p .step ∷ p .left ∷ p .pad ∷ p .writes ∷ p .fault
+    ∷ p .differences ∷ []
 
 -- pica_open, pica_feed: the progress to go on from; untouched on a refusal
 abbrev pub readerAfter : Going → List ℕ → List ℕ

@@ -5,12 +5,12 @@ use mathlib.Core.Bool.{Bool, _&&_}
 use mathlib.Core.List.{List}
 use Prim.Native.Nat.{ℕ}
 use Rattle.numbers.specs.Pick.{pick}
-use Rattle.numbers.specs.Answer.{Answer, answered, refused}
+use Rattle.numbers.specs.Answer.{Answer, answered, refused, Answers, besides}
 use Rattle.registers.specs.State.{State, sized}
-use Rattle.registers.specs.Applied.{applyAll}
+use Rattle.registers.specs.Applied.{applyAll, differences}
 use Rattle.copies.specs.Copy.{taken}
 use Rattle.reader.specs.Read.{ifAnswered}
-use Rattle.parts.specs.Progress.{fresh, after, made, heldAt, counted, closing}
+use Rattle.parts.specs.Progress.{fresh, plus, after, made, heldAt, counted, tallied, closing}
 use Rattle.parts.specs.declared.Progress.{Progress}
 use Rattle.pieces.specs.declared.Going.{Going}
 use Rattle.pieces.specs.declared.Going.the-variants.{Come, Refused}
@@ -37,20 +37,29 @@ openAnswer live spare = pick (bothSized live spare) (answered 0) (refused 6 0)
 unfoldable pub openedSpare : State → State → State
 openedSpare live spare = pick (bothSized live spare) (taken spare live) spare
 
--- FEEDING a part: the progress after its words, and the spare state after the writes that they make
+-- FEEDING a part: the progress after its words; its differences rise by those of the writes that the words make, each judged on the spare
+-- state left by those before it
+abbrev pub fed : Progress → State → List ℕ → Progress
+fed p spare part = tallied (counted (after p part)) (plus (p .differences) (differences spare (made p part)))
+
 unfoldable pub feeding : Progress → State → List ℕ → Going
-feeding p spare part = pick (sized spare) (Come (counted (after p part))) wrongLength
+feeding p spare part = pick (sized spare) (Come (fed p spare part)) wrongLength
 
 -- which tells how many words have come, held at 65,537
 unfoldable pub feedAnswer : Progress → State → List ℕ → Answer
 feedAnswer p spare part = pick (sized spare) (answered (heldAt (after p part .come))) (refused 6 0)
 
+-- and the spare state is left as those writes leave it
 unfoldable pub fedSpare : Progress → State → List ℕ → State
 fedSpare p spare part = pick (sized spare) (applyAll spare (made p part)) spare
 
 -- CLOSING: the verdict
 unfoldable pub closeAnswer : Progress → State → State → Answer
 closeAnswer p live spare = pick (bothSized live spare) (closing p) (refused 6 0)
+
+-- with, besides the number of writes, how many of them made a difference; a refusal gives neither
+unfoldable pub closeAnswers : Progress → State → State → Answers
+closeAnswers p live spare = besides (closeAnswer p live spare) (p .differences)
 
 -- then the reader is as freshly opened
 unfoldable pub closeProgress : Progress → State → State → Progress

@@ -1,6 +1,7 @@
--- What one allowed write does to a state, and what writes do one after another.
+-- What one allowed write does to a state, and what writes do one after another; whether a write made a difference, and how many did.
+use mathlib.Core.Bool.{Bool, true, not}
 use mathlib.Core.List.{List, [], _∷_}
-use Prim.Native.Nat.{ℕ}
+use Prim.Native.Nat.{ℕ, _+_}
 use lib.Bits.{bitAnd}
 use lib.Dec.{eqb}
 use lib.ListN.{getD, set}
@@ -31,3 +32,20 @@ apply s w = put s (w .id) (spread (w .mask)) (w .value)
 unfoldable pub applyAll : State → List Write → State
 applyAll s [] = s
 applyAll s (w ∷ ws) = applyAll (apply s w) ws
+
+-- does the cell, entry or index that is touched by writing v to i, in the bytes e, differ afterwards? Port data counts always, since its
+-- index always moves; of any other write the cell tells
+unfoldable pub differs : State → ℕ → ℕ → ℕ → Bool
+differs s i e v =
+    pick (fogData i) true
+    (pick (lightData i) true
+    (not (eqb (getD (cellsAfter (s .cells) i e v) i 0) (getD (s .cells) i 0))))
+
+-- A WRITE'S DIFFERENCE: 1 where it made one, else 0
+abbrev pub difference : State → Write → ℕ
+difference s w = pick (differs s (w .id) (spread (w .mask)) (w .value)) 1 0
+
+-- how many writes of a run made a difference, each judged on the state left by those before it
+unfoldable pub differences : State → List Write → ℕ
+differences s [] = 0
+differences s (w ∷ ws) = difference s w + differences (apply s w) ws

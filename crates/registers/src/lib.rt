@@ -1,11 +1,15 @@
-// What one write does to a state of three lent buffers. The contracts cite specs/Applied.antt and specs/Single.antt.
+// What one write does to a state of three lent buffers, and whether it made a difference. The contracts cite specs/Applied.antt and
+// specs/Single.antt.
 ghost use mathlib.Core.Path.{_≡_};
-ghost use Prim.Native.Nat.{_%_, _<_};
+ghost use mathlib.Core.Bool.{not};
+ghost use Prim.Native.Nat.{_%_, _<_, _≤_};
+ghost use lib.Dec.{eqb};
+ghost use Rattle.numbers.specs.Pick.{pick};
 ghost use Rattle.words.specs.Writes.{writing};
 ghost use Rattle.registers.specs.State.{st, sized, Lengths};
 ghost use Rattle.registers.specs.Held.{bitsOf};
 ghost use Rattle.registers.specs.Tables.{LookupTables};
-ghost use Rattle.registers.specs.Applied.{put};
+ghost use Rattle.registers.specs.Applied.{put, differs};
 ghost use Rattle.registers.specs.Single.{told, writeAnswer, writeState};
 use words::Refusal;
 
@@ -37,7 +41,14 @@ pub fn bits_held(slots: &[u8; 256], held: &[u32; 132], id: u32) -> u32
     }
 }
 
-// One write, of the bytes of `bytes`: held registers first, which are most.
+// 1 where a word is another than it was, else 0.
+pub fn changed(old: u32, new: u32) -> u32
+    ensures { λ r. ⌜ (r ≡ pick (not (eqb new old)) 1 0) × (r ≤ 1) ⌝ }
+{
+    if new == old { 0 } else { 1 }
+}
+
+// One write, of the bytes of `bytes`, and 1 where it made a difference, else 0: held registers first, which are most.
 pub fn put_one(
     cells: &mut [u32],
     fog: &mut [u32],
@@ -47,9 +58,12 @@ pub fn put_one(
     id: u32,
     bytes: u32,
     value: u32,
-)
+) -> u32
     requires { ⌜ Lengths (now cells) (now fog) (now light) × LookupTables (now slots) (now held) ⌝ }
-    ensures { λ _. ⌜
+    ensures difference { λ r. ⌜
+        (r ≡ pick (differs (st (now (cells .entry)) (now (fog .entry)) (now (light .entry))) id bytes value) 1 0) × (r ≤ 1)
+        ⌝ }
+    ensures state { λ _. ⌜
         st (now (cells .exit)) (now (fog .exit)) (now (light .exit))
         ≡ put (st (now (cells .entry)) (now (fog .entry)) (now (light .entry))) id bytes value
         ⌝ }
@@ -57,16 +71,20 @@ pub fn put_one(
     let bits = bits_held(slots, held, id);
     if bits != 0 {
         let i = id as usize;
-        cells[i] = ports::merged(bits & bytes, cells[i], value);
-        return;
+        let old = cells[i];
+        let new = ports::merged(bits & bytes, old, value);
+        cells[i] = new;
+        return changed(old, new);
     }
     if (0xE8 <= id) & (id <= 0xEF) {
         ports::put_fog(cells, fog, value);
-        return;
+        return 1;
     }
     if (0x1C8 <= id) & (id <= 0x1CF) {
         ports::put_light(cells, light, value);
+        return 1;
     }
+    0
 }
 
 // The three buffers have a state's lengths.
@@ -77,11 +95,13 @@ pub fn is_sized(cells: &[u32], fog: &[u32], light: &[u32]) -> bool
 }
 
 pub enum Written {
-    Done,
+    // whether it made a difference
+    Done(bool),
     Refused(Refusal),
 }
 
-// One write applied to a state, or refused with 6, 9, 3, 4 or 5, in this order, at place 0; a refusal changes nothing.
+// One write applied to a state, and whether it made a difference; or refused with 6, 9, 3, 4 or 5, in this order, at place 0, and then
+// nothing changes.
 pub fn write(
     cells: &mut [u32],
     fog: &mut [u32],
@@ -119,15 +139,7 @@ pub fn write(
     }
     let slots = held::slot_table();
     let held = held::held_table();
-    put_one(
-        cells,
-        fog,
-        light,
-        &slots,
-        &held,
-        id,
-        ports::spread_mask(mask),
-        value,
-    );
-    Written::Done
+    let bytes = ports::spread_mask(mask);
+    let difference = put_one(cells, fog, light, &slots, &held, id, bytes, value);
+    Written::Done(difference != 0)
 }

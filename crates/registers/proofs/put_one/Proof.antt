@@ -1,10 +1,11 @@
 -- Each way out is one case of `put`. Assumes nothing.
-use mathlib.Core.Path.{_≡_, sym, _∙_}
+use mathlib.Core.Path.{_≡_, refl, sym, _∙_}
 use native.Mathlib.Omega.{arith}
 use Rattle.registers.specs.State.{st}
 use Rattle.registers.specs.Held.{bitsOf}
 use Rattle.registers.proofs.Lookup.{Has, held-has}
 use Rattle.registers.proofs.Puts.{put-held, put-fog-data, put-light-data, put-free}
+use Rattle.registers.proofs.Differences.{differs-held, differs-fog-data, differs-light-data, differs-free}
 use borrow.Author.Needs.{needs}
 use Rattle.registers.proofs.put_one.Statement.{statement}
 use Rattle.registers.proofs.put_one.Tie as tie
@@ -19,11 +20,11 @@ has c = held-has (c .before .before .before .before .before .args .id) (some c)
 bits-held-requires : tie.Need-bits-held-requires
 bits-held-requires c κs = search needs
 
-mul-merged : tie.Need-mul-merged
-mul-merged c = search needs
+mul-old : tie.Need-mul-old
+mul-old c = search needs
 
-slice-read-merged : tie.Need-slice-read-merged
-slice-read-merged c =
+slice-read-old : tie.Need-slice-read-old
+slice-read-old c =
     let i = has (c .before) .small in omega arith
 
 merged-requires : tie.Need-merged-requires
@@ -36,15 +37,26 @@ slice-write-cells : tie.Need-slice-write-cells
 slice-write-cells c =
     let i = has (c .before .before) .small in omega arith
 
+changed-requires : tie.Need-changed-requires
+changed-requires c κs = search needs
+
 same-length : tie.Need-same-length
 same-length c = search needs
 
 returns : tie.Need-returns
 returns c =
-    let a = c .before .before .before .before .before .before .before .args in
+    let at-merged = c .before in
+    let at-if1 = at-merged .before .before in
+    let at-bits-held = at-if1 .before in
+    let at-start = at-bits-held .before .before .before .before in
+    let a = at-start .args in
     let s = st (a .cells .now) (a .fog .now) (a .light .now) in
-    let p = put-held s (a .id) (a .bytes) (a .value) (some (c .before .before)) in
-    rw (p, c .merged .ensures, c .before .before .before .bits-held .ensures)
+    let p = put-held s (a .id) (a .bytes) (a .value) (some at-if1) in
+    let d = differs-held s (a .id) (a .bytes) (a .value) (some at-if1) (omega (arith, has at-if1 .small, at-start .pre .0 .0)) in
+    let n = c .changed .ensures in
+    let m = at-merged .merged .ensures in
+    let b = at-bits-held .bits-held .ensures in
+    ((n .0 ∙ rw (m, b, d), n .1), rw (p, m, b))
 
 put-fog-requires : tie.Need-put-fog-requires
 put-fog-requires c κs = search needs
@@ -59,7 +71,10 @@ returns-2 : tie.Need-returns-2
 returns-2 c =
     let at-put-fog = c .before .before .before .before in
     let at-if2 = at-put-fog .before .before .before in
-    rw (put-fog-data _ _ _ _ (at-if2 .if2 .taken), at-put-fog .put-fog .ensures .0, at-put-fog .put-fog .ensures .1)
+    let t = at-if2 .if2 .taken in (
+      (rw (differs-fog-data _ _ _ _ t), omega arith),
+      rw (put-fog-data _ _ _ _ t, at-put-fog .put-fog .ensures .0, at-put-fog .put-fog .ensures .1),
+    )
 
 put-light-requires : tie.Need-put-light-requires
 put-light-requires c κs = search needs
@@ -77,24 +92,28 @@ returns-3 c =
     let a = at-if3 .before .before .before .before .before .before .before .args in
     let s = st (a .cells .now) (a .fog .now) (a .light .now) in
     let p = put-light-data s (a .id) (a .bytes) (a .value) (at-if3 .before .if2 .left) (at-if3 .if3 .taken) in
-    rw (p, at-put-light .put-light .ensures .0, at-put-light .put-light .ensures .1)
+    let d = differs-light-data s (a .id) (a .bytes) (a .value) (at-if3 .before .if2 .left) (at-if3 .if3 .taken) in
+    ((rw d, omega arith), rw (p, at-put-light .put-light .ensures .0, at-put-light .put-light .ensures .1))
 
 returns-4 : tie.Need-returns-4
 returns-4 c =
     let a = c .before .before .before .before .before .before .before .args in
     let z = sym (c .before .before .before .bits-held .ensures) ∙ c .before .before .if1 .left in
-    sym (put-free _ (a .id) (a .bytes) (a .value) (c .before .if2 .left) (c .if3 .left) z)
+    let f = c .before .if2 .left in
+    let g = c .if3 .left in
+    ((rw (differs-free _ (a .id) (a .bytes) (a .value) f g z), omega arith), sym (put-free _ (a .id) (a .bytes) (a .value) f g z))
 
 pub put-one-spec : {M : Type 1} → statement M
 put-one-spec =
     tie.close
     (tie.spec
     bits-held-requires
-    mul-merged
-    slice-read-merged
+    mul-old
+    slice-read-old
     merged-requires
     mul-cells
     slice-write-cells
+    changed-requires
     same-length
     returns
     put-fog-requires
