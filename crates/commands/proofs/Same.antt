@@ -1,13 +1,13 @@
--- A command to one id that is no port's data: of its values the last decides. Assumes nothing.
-use mathlib.Core.Path.{_≡_, refl, ap, _∙_}
+-- A command to one id that is no port's data: of its values the last decides, and each counts that changes the cell. Assumes nothing.
+use mathlib.Core.Path.{_≡_, refl, _∙_}
+use mathlib.Core.Bool.{false, not}
 use mathlib.Core.List.{List}
 use Prim.Native.Nat.{ℕ, zero, suc, _+_, _-_, _^_, _<_}
 use native.Mathlib.Omega.{arith}
 use lib.Bits.{bitAnd, and-le-r}
 use lib.Dec.{eqb}
-use lib.ListN.{length, getD, set}
+use lib.ListN.{length, getD, set, length-set}
 use lib.Seq.{getD-set-same, set-set}
-use borrow.Author.Tests.{ne-eqb}
 use Rattle.numbers.specs.Bits.{bit, spread, merge, pickBit}
 use Rattle.numbers.specs.Pick.{pick}
 use Rattle.numbers.proofs.Merge.{bits-equal, merge-bit, merge-word}
@@ -15,11 +15,12 @@ use Rattle.words.specs.Writes.{Write}
 use Rattle.words.specs.declared.Header.{Header}
 use Rattle.registers.specs.Held.{bitsOf}
 use Rattle.registers.specs.State.{State, st}
-use Rattle.registers.specs.Applied.{applyAll}
+use Rattle.registers.specs.Applied.{put, applyAll, differs, differences}
 use Rattle.registers.proofs.Puts.{put-held, put-free}
+use Rattle.registers.proofs.Differences.{differs-held, differs-free}
 use Rattle.commands.specs.Run.{runFrom, runWith}
 use Rattle.commands.specs.ToOne.{ToOne}
-use Rattle.commands.proofs.Applying.{run-applied, same-first, same-applies}
+use Rattle.commands.proofs.Applying.{run-applied, same-first, same-applies, same-counts, same-first-counts, same-alike-counts}
 
 -- of replacements in the same bits the last decides
 pick-last : (e o a b : ℕ) → pickBit e b (pickBit e a o) ≡ pickBit e b o
@@ -32,13 +33,6 @@ merge-last e old a b h =
     (λ k t.
     merge-bit k e (merge e old a) b h t
     ∙ rw (merge-bit k e old a h t, merge-bit k e old b h t) (pick-last (bit k e) (bit k old) (bit k a) (bit k b)))
-
--- the last of n + 1 values from j on is the last of n from j + 1 on, or the one at j
-last-next : (l : List ℕ) (j n : ℕ) → pick (eqb n 0) (getD l j 0) (getD l (j + 1 + n - 1) 0) ≡ getD l (j + suc n - 1) 0
-last-next l j zero = let e : j ≡ j + 1 - 1 = omega arith in ap (λ k. getD l k 0) e
-last-next l j (suc n) =
-    let e : j + 1 + suc n - 1 ≡ j + suc (suc n) - 1 = omega arith in
-    rw (ne-eqb (suc n) 0 (λ z. omega arith)) (ap (λ k. getD l k 0) e)
 
 module _ (h : Header) (o : ToOne h) (l : List ℕ) where
   abbrev id : ℕ
@@ -65,38 +59,55 @@ module _ (h : Header) (o : ToOne h) (l : List ℕ) where
       same-first h (o .one) s v l j
       ∙ rw (put-free s id (spread (h .mask)) v (o .noFog) (o .noLight) z) (free-run z s j (h .count))
 
-  -- HELD: the last value decides
-  module _ (some : bitsOf id ≡ 0 → ⊥) (cells fog light : List ℕ) (b : id < length cells) where
+  pub free-counts : bitsOf id ≡ 0 → (s : State) (v j : ℕ) → differences s (runWith h v l j) ≡ 0
+  free-counts z s v j =
+      same-alike-counts h (o .one) false (λ t x. differs-free t id (spread (h .mask)) x (o .noFog) (o .noLight) z) s v l j
+
+  -- HELD: write by write, c being what the cell holds before a write. A value may as well go into the cell as it was at first
+  module _ (some : bitsOf id ≡ 0 → ⊥) (cells : List ℕ) (b : id < length cells) where
     abbrev old : ℕ
     old = getD cells id 0
 
-    e-word : e < 2 ^ 32
-    e-word = omega (arith, and-le-r (bitsOf id) (spread (h .mask)))
+    abbrev pub Since : ℕ → Type 0
+    Since c = (x : ℕ) → merge e c x ≡ merge e old x
 
-    -- one more write
-    held-next : (v j n : ℕ)
-        → applyAll (st (set cells id (merge e old v)) fog light) (rest j (suc n))
-        ≡ applyAll (st (set cells id (merge e old (getD l j 0))) fog light) (rest (j + 1) n)
-    held-next v j n =
-        let m : suc n - 1 ≡ n = omega arith in
-        let w = merge e old v in
-        same-applies l (h .mask) (st (set cells id w) fog light) j (suc n) id (omega arith)
-        ∙ rw (
-          m,
-          put-held (st (set cells id w) fog light) id (spread (h .mask)) (getD l j 0) some,
-          getD-set-same cells id w 0 b,
-          set-set cells id w,
-          merge-last e old v (getD l j 0) e-word,
-        )
+    pub since-merged : (v : ℕ) → Since (merge e old v)
+    since-merged v x = merge-last e old v x (omega (arith, and-le-r (bitsOf id) (spread (h .mask))))
 
-    held-run : (v j n : ℕ)
-        → applyAll (st (set cells id (merge e old v)) fog light) (rest j n)
-        ≡ st (set cells id (merge e old (pick (eqb n 0) v (getD l (j + n - 1) 0)))) fog light
-    held-run v j zero = run-applied l (h .mask) _ j 0 id 0 (omega arith)
-    held-run v j (suc n) = held-next v j n ∙ held-run (getD l j 0) (j + 1) n ∙ rw (ne-eqb (suc n) 0 (λ z. omega arith), last-next l j n)
+    -- 1 where a write changes c into d
+    abbrev step : ℕ → ℕ → ℕ
+    step c d = pick (not (eqb d c)) 1 0
 
-    pub held-command : (v j : ℕ) → applyAll (st cells fog light) (runWith h v l j)
-        ≡ st (set cells id (merge e old (pick (eqb (h .count) 0) v (getD l (j + h .count - 1) 0)))) fog light
-    held-command v j =
-        same-first h (o .one) (st cells fog light) v l j
-        ∙ rw (put-held (st cells fog light) id (spread (h .mask)) v some) (held-run v j (h .count))
+    module _ (fog light : List ℕ) where
+      abbrev holding : ℕ → State
+      holding c = st (set cells id c) fog light
+
+      pub held-first : (v j : ℕ)
+          → applyAll (st cells fog light) (runWith h v l j) ≡ applyAll (holding (merge e old v)) (rest j (h .count))
+      held-first v j =
+          same-first h (o .one) (st cells fog light) v l j ∙ rw (put-held (st cells fog light) id (spread (h .mask)) v some)
+
+      pub held-first-counts : (v j : ℕ)
+          → differences (st cells fog light) (runWith h v l j)
+          ≡ step old (merge e old v) + differences (holding (merge e old v)) (rest j (h .count))
+      held-first-counts v j =
+          same-first-counts h (o .one) (st cells fog light) v l j
+          ∙ rw (put-held (st cells fog light) id (spread (h .mask)) v some, differs-held (st cells fog light) id (spread (h .mask)) v some b)
+
+      module _ (c : ℕ) (k : Since c) (j n : ℕ) (p : 0 < n) where
+        abbrev v : ℕ
+        v = getD l j 0
+
+        puts : put (holding c) id (spread (h .mask)) v ≡ holding (merge e old v)
+        puts = put-held (holding c) id (spread (h .mask)) v some ∙ rw (getD-set-same cells id c 0 b, set-set cells id c, k v)
+
+        tells : differs (holding c) id (spread (h .mask)) v ≡ not (eqb (merge e old v) c)
+        tells =
+            differs-held (holding c) id (spread (h .mask)) v some (simp length-set b) ∙ rw (getD-set-same cells id c 0 b, k v)
+
+        pub held-next : applyAll (holding c) (rest j n) ≡ applyAll (holding (merge e old v)) (rest (j + 1) (n - 1))
+        held-next = same-applies l (h .mask) (holding c) j n id p ∙ rw puts
+
+        pub held-next-counts : differences (holding c) (rest j n)
+            ≡ step c (merge e old v) + differences (holding (merge e old v)) (rest (j + 1) (n - 1))
+        held-next-counts = same-counts l (h .mask) (holding c) j n id p ∙ rw (puts, tells)
