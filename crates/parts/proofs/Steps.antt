@@ -1,8 +1,13 @@
 -- What a word does, by the tests that code makes, and what a part does, word by word. Assumes nothing.
 use mathlib.Core.Path.{_≡_, refl, sym, _∙_}
+use mathlib.Core.Bool.{Bool, true, false}
 use mathlib.Core.List.{List, [], _∷_, _++_, append-assoc}
 use Prim.Native.Nat.{ℕ, _≤_, _<_}
+use native.Mathlib.Omega.{arith}
+use lib.Dec.{eqb, ltb}
+use lib.ListN.{length}
 use borrow.Author.Tests.{lt-ltb, le-ltb, eq-eqb, ne-eqb}
+use Rattle.numbers.specs.Pick.{pick}
 use Rattle.words.specs.Header.{idOf, maskOf}
 use Rattle.words.specs.Writes.{Write, writing}
 use Rattle.parts.specs.Progress.{plus, past, extra, padding, headed, started, passed, next, sound, makes, after, made}
@@ -58,6 +63,25 @@ module _ (p : Progress) (x : ℕ) where
       let v = le-ltb 0 (p .pad) c in
       let w = le-ltb 0 (p .begun) d in
       let z = ne-eqb (p .fault) 0 e in record { progress = rw (t, u, v, w, z); writes = rw (t, u, v, w, z) }
+
+  -- at most one write
+  pub makes-most : length (makes p x) ≤ 1
+  unfolding makes
+  makes-most = go (ltb 65535 (p .come)) (ltb 0 (p .left)) (ltb 0 (p .pad)) (ltb 0 (p .begun)) (eqb (p .fault) 0)
+    where
+      one : (f : Bool) (w : Write) → length (pick f (w ∷ []) []) ≤ 1
+      one true w = omega arith
+      one false w = omega arith
+
+      go : (a b c d e : Bool)
+          → length (pick a [] (pick b (sound (extra p .fault) (writing (plus (p .id) (p .step)) (p .mask) x)) (pick c []
+          (pick d (sound (headed p x .fault) (writing (idOf x) (maskOf x) (p .first))) (pick e [] []))))) ≤ 1
+      go true b c d e = omega arith
+      go false true c d e = one (eqb (extra p .fault) 0) _
+      go false false true d e = omega arith
+      go false false false true e = one (eqb (headed p x .fault) 0) _
+      go false false false false true = omega arith
+      go false false false false false = omega arith
 
 -- A PART
 

@@ -6,14 +6,15 @@ use Prim.Native.Nat.{ℕ, zero, suc, _+_, _-_, _%_, _≤_, _<_}
 use native.Mathlib.Numerals.{add-one}
 use native.Mathlib.Omega.{arith}
 use lib.Dec.{eqb}
-use lib.ListN.{length, getD, drop}
+use lib.ListN.{length, getD, drop, length-append}
 use lib.Seq.{drop-cons}
 use borrow.Author.Tests.{eq-eqb}
 use Rattle.numbers.specs.Pick.{pick}
 use Rattle.words.specs.Header.{idOf, maskOf, countOf, stepOf, wordsOf}
 use Rattle.words.specs.Writes.{Write, writing, faultOf}
 use Rattle.registers.specs.State.{State}
-use Rattle.registers.specs.Applied.{applyAll}
+use Rattle.registers.specs.Applied.{applyAll, differences}
+use Rattle.registers.proofs.Differences.{differences-append, differences-most}
 use Rattle.commands.specs.Run.{runFrom}
 use Rattle.commands.specs.Clear.{lastId, clear}
 use Rattle.commands.proofs.Applying.{apply-append}
@@ -22,7 +23,7 @@ use Rattle.commands.proofs.Runs.{runFrom-done, runFrom-next}
 use Rattle.parts.specs.Progress.{moved, plus, firstOf, padding, headed, started, after, made}
 use Rattle.parts.specs.Leads.{Leads}
 use Rattle.parts.specs.declared.Progress.{Progress}
-use Rattle.parts.proofs.Steps.{Takes, takes-extra, takes-padding, takes-header, takes-first, after-more, made-more}
+use Rattle.parts.proofs.Steps.{Takes, takes-extra, takes-padding, takes-header, takes-first, makes-most, after-more, made-more}
 
 -- p after some commands
 abbrev pub so-far : Progress → ℕ → ℕ → ℕ → ℕ → ℕ → ℕ → ℕ → Progress
@@ -42,14 +43,15 @@ so-far p come place first id mask step writes =
       differences = p .differences;
     }
 
--- from the progress p before word i of a list to q before word j, by the writes ws
+-- from the progress p before word i of a list to q before word j, by the writes ws, which are no more than the words
 pub record Way (l : List ℕ) (p : Progress) (i : ℕ) (q : Progress) (j : ℕ) (ws : List Write) : Type 0 where
   pub progress : after q (drop j l) ≡ after p (drop i l)
   pub writes : ws ++ made q (drop j l) ≡ made p (drop i l)
+  pub few : length ws + i ≤ j
 
 module _ (l : List ℕ) where
   pub stay : (p : Progress) (i : ℕ) → Way l p i p i []
-  stay p i = record { progress = refl; writes = refl }
+  stay p i = record { progress = refl; writes = refl; few = omega arith }
 
   -- one word
   pub by-word : (p q : Progress) (i : ℕ) (ws : List Write) → i < length l → Takes p (getD l i 0) q ws → Way l p i q (i + 1) ws
@@ -60,6 +62,7 @@ module _ (l : List ℕ) where
       record {
         progress = rw (e, after-more p x rest, t .progress);
         writes = rw (e, made-more p x rest, t .progress, t .writes);
+        few = rw (← (t .writes)) (omega (arith, makes-most p x));
       }
 
   -- one way after another
@@ -69,6 +72,7 @@ module _ (l : List ℕ) where
       record {
         progress = b .progress ∙ a .progress;
         writes = append-assoc ws vs (made r (drop k l)) ∙ rw (b .writes) (a .writes);
+        few = rw (length-append ws vs) (omega (arith, a .few, b .few));
       }
 
 -- A RUN OF EXTRA PARAMETERS, none of them at fault
@@ -243,27 +247,31 @@ module _ (l : List ℕ) where
         rw (← end, ← j, ← (append-nil (writing (idOf h) (maskOf h) x ∷ rs)))
         (both-ways l p (closed 0) (closed n) i (i + 2 + countOf h) (i + 2 + countOf h + n) _ [] (rw (c, d) at all) three)
 
--- a way, with what its writes leave of a state
-pub leads-by : (l : List ℕ) (p q : Progress) (i j : ℕ) (s t : State) (ws : List Write) → Way l p i q j ws → i ≤ j
-    → j ≤ length l
-    → t ≡ applyAll s ws → Leads l p i s q j t
-leads-by l p q i j s t ws w f h e =
+-- a way, with what its writes leave of a state, and how many made a difference
+pub leads-by : (l : List ℕ) (p q : Progress) (i j : ℕ) (s t : State) (ws : List Write) (d : ℕ) → Way l p i q j ws → j ≤ length l
+    → t ≡ applyAll s ws
+    → d ≡ differences s ws
+    → Leads l p i s q j t d
+leads-by l p q i j s t ws d w h e c =
     record {
-      further = f;
+      few = omega (arith, w .few, differences-most s ws, c);
       inside = h;
       progress = w .progress;
       state = rw (e, ← (w .writes)) (sym (apply-append s ws (made q (drop j l))));
+      counts = rw (c, e, ← (w .writes)) (sym (differences-append s ws (made q (drop j l))));
     }
 
-pub leads-none : (l : List ℕ) (p : Progress) (i : ℕ) (s : State) → i ≤ length l → Leads l p i s p i s
-leads-none l p i s h = record { further = omega arith; inside = h; progress = refl; state = refl }
+pub leads-none : (l : List ℕ) (p : Progress) (i : ℕ) (s : State) → i ≤ length l → Leads l p i s p i s 0
+leads-none l p i s h = record { few = omega arith; inside = h; progress = refl; state = refl; counts = omega arith }
 
-pub leads-on : (l : List ℕ) (p q r : Progress) (i j k : ℕ) (s t u : State) → Leads l p i s q j t → Leads l q j t r k u
-    → Leads l p i s r k u
-leads-on l p q r i j k s t u a b =
+pub leads-on : (l : List ℕ) (p q r : Progress) (i j k : ℕ) (s t u : State) (d e n : ℕ) → Leads l p i s q j t d → Leads l q j t r k u e
+    → n ≡ d + e
+    → Leads l p i s r k u n
+leads-on l p q r i j k s t u d e n a b f =
     record {
-      further = omega (arith, a .further, b .further);
+      few = omega (arith, a .few, b .few, f);
       inside = b .inside;
       progress = b .progress ∙ a .progress;
       state = b .state ∙ a .state;
+      counts = omega (arith, a .counts, b .counts, f);
     }

@@ -1,4 +1,5 @@
-// The words of a part of a list, one after another. The contracts cite specs/Progress.antt.
+// The words of a part of a list, one after another, and how many of the writes that they make made a difference. The contracts cite
+// specs/Progress.antt.
 ghost use mathlib.Core.Path.{_≡_};
 ghost use Prim.Native.Nat.{_+_, _≤_, _<_, min};
 ghost use lib.ListN.{length};
@@ -7,10 +8,10 @@ ghost use Rattle.words.specs.Header.{idOf, maskOf};
 ghost use Rattle.words.specs.Writes.{writing, faultOf};
 ghost use Rattle.registers.specs.State.{st, Lengths};
 ghost use Rattle.registers.specs.Tables.{LookupTables};
-ghost use Rattle.registers.specs.Applied.{applyAll};
+ghost use Rattle.registers.specs.Applied.{applyAll, differences};
 ghost use Rattle.commands.specs.Run.{runFrom, runWith};
 ghost use Rattle.parts.specs.Leads.{Leads};
-ghost use Rattle.parts.specs.Progress.{firstOf, headed, sound, next, makes, after, made};
+ghost use Rattle.parts.specs.Progress.{plus, firstOf, headed, sound, next, makes, after, made, tallied};
 use words::Header;
 
 // How far a reading has come: what the words so far leave for the next one to go by.
@@ -48,7 +49,7 @@ fn first_fault(earlier: u32, id: u32, mask: u32) -> u32
     words::fault(id, mask)
 }
 
-// One write, in the bytes of its mask, unless there is a fault so far.
+// One write, in the bytes of its mask, unless there is a fault so far: 1 where it made a difference, else 0.
 fn put_sound(
     cells: &mut [u32],
     fog: &mut [u32],
@@ -59,18 +60,27 @@ fn put_sound(
     id: u32,
     mask: u32,
     value: u32,
-)
+) -> u32
     requires { ⌜ Lengths (now cells) (now fog) (now light) × LookupTables (now slots) (now held) ⌝ }
-    ensures { λ _. ⌜
+    ensures difference { λ r. ⌜
+        r ≡ differences (st (now (cells .entry)) (now (fog .entry)) (now (light .entry))) (sound fault (writing id mask value))
+        ⌝ }
+    ensures state { λ _. ⌜
         st (now (cells .exit)) (now (fog .exit)) (now (light .exit))
         ≡ applyAll (st (now (cells .entry)) (now (fog .entry)) (now (light .entry))) (sound fault (writing id mask value))
         ⌝ }
 {
     if fault != 0 {
-        return;
+        return 0;
     }
     let bytes = ports::spread_mask(mask);
-    registers::put_one(cells, fog, light, slots, held, id, bytes, value);
+    registers::put_one(cells, fog, light, slots, held, id, bytes, value)
+}
+
+// The progress after a word, and whether the write that it makes made a difference: 1 or 0.
+struct Taken {
+    progress: Progress,
+    difference: u32,
 }
 
 // The header of the present command.
@@ -82,10 +92,15 @@ fn take_header(
     slots: &[u8; 256],
     held: &[u32; 132],
     x: u32,
-) -> Progress
+) -> Taken
     requires { ⌜ Lengths (now cells) (now fog) (now light) × LookupTables (now slots) (now held) ⌝ }
     requires { ⌜ p .come ≤ 65535 ⌝ }
-    ensures progress { λ r. ⌜ r ≡ headed p x ⌝ }
+    ensures progress { λ r. ⌜ r .progress ≡ headed p x ⌝ }
+    ensures difference { λ r. ⌜
+        r .difference
+        ≡ differences (st (now (cells .entry)) (now (fog .entry)) (now (light .entry)))
+        (sound (headed p x .fault) (writing (idOf x) (maskOf x) (p .first)))
+        ⌝ }
     ensures state { λ _. ⌜
         st (now (cells .exit)) (now (fog .exit)) (now (light .exit))
         ≡ applyAll (st (now (cells .entry)) (now (fog .entry)) (now (light .entry)))
@@ -94,7 +109,7 @@ fn take_header(
 {
     let h = words::parts(x);
     let fault = first_fault(p.fault, h.id, h.mask);
-    put_sound(cells, fog, light, slots, held, fault, h.id, h.mask, p.first);
+    let difference = put_sound(cells, fog, light, slots, held, fault, h.id, h.mask, p.first);
     let mut q = p;
     q.come = p.come + 1;
     q.begun = 0;
@@ -105,7 +120,10 @@ fn take_header(
     q.pad = (2 + h.count) % 2;
     q.writes = std::num::wrapping_add_u32(p.writes, h.count + 1);
     q.fault = fault;
-    q
+    Taken {
+        progress: q,
+        difference,
+    }
 }
 
 // One word: the progress after it, and the write that it makes.
@@ -117,9 +135,12 @@ fn take_word(
     slots: &[u8; 256],
     held: &[u32; 132],
     x: u32,
-) -> Progress
+) -> Taken
     requires { ⌜ Lengths (now cells) (now fog) (now light) × LookupTables (now slots) (now held) ⌝ }
-    ensures progress { λ r. ⌜ r ≡ next p x ⌝ }
+    ensures progress { λ r. ⌜ r .progress ≡ next p x ⌝ }
+    ensures difference { λ r. ⌜
+        r .difference ≡ differences (st (now (cells .entry)) (now (fog .entry)) (now (light .entry))) (makes p x)
+        ⌝ }
     ensures state { λ _. ⌜
         st (now (cells .exit)) (now (fog .exit)) (now (light .exit))
         ≡ applyAll (st (now (cells .entry)) (now (fog .entry)) (now (light .entry))) (makes p x)
@@ -128,21 +149,30 @@ fn take_word(
     let mut q = p;
     if 65535 < p.come {
         q.come = 65537;
-        return q;
+        return Taken {
+            progress: q,
+            difference: 0,
+        };
     }
     q.come = p.come + 1;
     if 0 < p.left {
         let id = std::num::wrapping_add_u32(p.id, p.step);
         let fault = first_fault(p.fault, id, p.mask);
-        put_sound(cells, fog, light, slots, held, fault, id, p.mask, x);
+        let difference = put_sound(cells, fog, light, slots, held, fault, id, p.mask, x);
         q.id = id;
         q.left = p.left - 1;
         q.fault = fault;
-        return q;
+        return Taken {
+            progress: q,
+            difference,
+        };
     }
     if 0 < p.pad {
         q.pad = p.pad - 1;
-        return q;
+        return Taken {
+            progress: q,
+            difference: 0,
+        };
     }
     if 0 < p.begun {
         return take_header(p, cells, fog, light, slots, held, x);
@@ -151,12 +181,19 @@ fn take_word(
         q.place = p.come;
         q.begun = 1;
         q.first = x;
-        return q;
+        return Taken {
+            progress: q,
+            difference: 0,
+        };
     }
-    q
+    Taken {
+        progress: q,
+        difference: 0,
+    }
 }
 
-// Writes to ids from `h.id` on, one for each of the `h.count` values that stand in `list` from `from` on.
+// Writes to ids from `h.id` on, one for each of the `h.count` values that stand in `list` from `from` on: how many of them made a
+// difference. To a port's data every write does.
 fn put_run(
     cells: &mut [u32],
     fog: &mut [u32],
@@ -166,10 +203,16 @@ fn put_run(
     h: Header,
     list: &[u32],
     from: usize,
-)
+) -> u32
     requires { ⌜ Lengths (now cells) (now fog) (now light) × LookupTables (now slots) (now held) ⌝ }
     requires { ⌜ (h .id ≤ 0x20000) × (h .count < 256) × (h .step ≤ 1) × (from + h .count ≤ length (now list)) ⌝ }
-    ensures { λ _. ⌜
+    ensures count { λ r. ⌜
+        (r
+        ≡ differences (st (now (cells .entry)) (now (fog .entry)) (now (light .entry)))
+        (runFrom (now (list .entry)) from (h .count) (h .id) (h .mask) (h .step)))
+        × (r ≤ h .count)
+        ⌝ }
+    ensures state { λ _. ⌜
         st (now (cells .exit)) (now (fog .exit)) (now (light .exit))
         ≡ applyAll (st (now (cells .entry)) (now (fog .entry)) (now (light .entry)))
         (runFrom (now (list .entry)) from (h .count) (h .id) (h .mask) (h .step))
@@ -180,27 +223,30 @@ fn put_run(
     if step == 0 {
         if (0xE8 <= id) & (id <= 0xEF) {
             ports::upload_fog(cells, fog, list, from, h.count);
-            return;
+            return h.count;
         }
         if (0x1C8 <= id) & (id <= 0x1CF) {
             ports::upload_light(cells, light, list, from, h.count);
-            return;
+            return h.count;
         }
     }
     let mask = h.mask;
     let bytes = ports::spread_mask(mask);
     let mut left = h.count;
     let mut j = from;
+    let mut n: u32 = 0;
     while 0 < left {
-        registers::put_one(cells, fog, light, slots, held, id, bytes, list[j]);
+        n += registers::put_one(cells, fog, light, slots, held, id, bytes, list[j]);
         j += 1;
         id += step;
         left -= 1;
     }
+    n
 }
 
-// The writes of a command with the header `h`: its first value is `first`, the others stand in `list` from `from` on. `commands::apply_run`
-// does the same, and is left to `reader`: a function that is called from more places than one is not put in line, and reading was slower.
+// The writes of a command with the header `h`: its first value is `first`, the others stand in `list` from `from` on. Tells how many of them
+// made a difference. `commands::apply_run` does the same, and is left to `reader`: a function that is called from more places than one is
+// not put in line, and reading was slower.
 fn put_command(
     cells: &mut [u32],
     fog: &mut [u32],
@@ -211,19 +257,22 @@ fn put_command(
     first: u32,
     list: &[u32],
     from: usize,
-)
+) -> u32
     requires { ⌜ Lengths (now cells) (now fog) (now light) × LookupTables (now slots) (now held) ⌝ }
     requires { ⌜ (h .id < 0x20000) × (h .count < 256) × (h .step ≤ 1) × (from + h .count ≤ length (now list)) ⌝ }
-    ensures { λ _. ⌜
+    ensures count { λ r. ⌜
+        r ≡ differences (st (now (cells .entry)) (now (fog .entry)) (now (light .entry))) (runWith h first (now (list .entry)) from)
+        ⌝ }
+    ensures state { λ _. ⌜
         st (now (cells .exit)) (now (fog .exit)) (now (light .exit))
         ≡ applyAll (st (now (cells .entry)) (now (fog .entry)) (now (light .entry))) (runWith h first (now (list .entry)) from)
         ⌝ }
 {
     let mask = h.mask;
     let bytes = ports::spread_mask(mask);
-    registers::put_one(cells, fog, light, slots, held, h.id, bytes, first);
+    let n = registers::put_one(cells, fog, light, slots, held, h.id, bytes, first);
     if h.count == 0 {
-        return;
+        return n;
     }
     let rest = Header {
         id: h.id + h.step,
@@ -231,13 +280,14 @@ fn put_command(
         count: h.count,
         step: h.step,
     };
-    put_run(cells, fog, light, slots, held, rest, list, from);
+    n + put_run(cells, fog, light, slots, held, rest, list, from)
 }
 
-// How far a step led within a part.
+// How far a step led within a part, and how many of the writes that it made made a difference.
 struct Reached {
     progress: Progress,
     at: usize,
+    differences: usize,
 }
 
 // The word at `at`.
@@ -256,13 +306,15 @@ fn take_one(
     ensures further { λ r. ⌜ at < r .at ⌝ }
     ensures leads { λ r. ⌜
         Leads (now (part .entry)) p at (st (now (cells .entry)) (now (fog .entry)) (now (light .entry)))
-        (r .progress) (r .at) (st (now (cells .exit)) (now (fog .exit)) (now (light .exit)))
+        (r .progress) (r .at) (st (now (cells .exit)) (now (fog .exit)) (now (light .exit))) (r .differences)
         ⌝ }
 {
-    let progress = take_word(p, cells, fog, light, slots, held, part[at]);
+    let w = take_word(p, cells, fog, light, slots, held, part[at]);
+    let progress = w.progress;
     Reached {
         progress,
         at: at + 1,
+        differences: w.difference as usize,
     }
 }
 
@@ -283,7 +335,7 @@ fn take_commands(
     requires { ⌜ (at ≤ length (now part)) × (p .left ≡ 0) × (p .pad ≡ 0) × (p .begun ≡ 0) × (p .fault ≡ 0) ⌝ }
     ensures { λ r. ⌜
         Leads (now (part .entry)) p at (st (now (cells .entry)) (now (fog .entry)) (now (light .entry)))
-        (r .progress) (r .at) (st (now (cells .exit)) (now (fog .exit)) (now (light .exit)))
+        (r .progress) (r .at) (st (now (cells .exit)) (now (fog .exit)) (now (light .exit))) (r .differences)
         ⌝ }
 {
     let mut come = p.come;
@@ -294,6 +346,7 @@ fn take_commands(
     let mut step = p.step;
     let mut writes = p.writes;
     let mut i = at;
+    let mut differences: usize = 0;
     'commands: while 2 <= part.len() - i {
         let h = words::parts(part[i + 1]);
         let taken = words::words_taken(h);
@@ -302,7 +355,8 @@ fn take_commands(
         if !(here & commands::is_clear(h.id, last, h.mask)) {
             break 'commands;
         }
-        put_command(cells, fog, light, slots, held, h, part[i], part, i + 2);
+        let n = put_command(cells, fog, light, slots, held, h, part[i], part, i + 2);
+        differences += n as usize;
         place = come;
         come += (h.count + 3) / 2 * 2;
         first = part[i];
@@ -328,6 +382,7 @@ fn take_commands(
             differences: p.differences,
         },
         at: i,
+        differences,
     }
 }
 
@@ -365,17 +420,25 @@ fn take_extras(
     requires { ⌜ (at < length (now part)) × (0 < p .left) ⌝ }
     ensures { λ r. ⌜
         Leads (now (part .entry)) p at (st (now (cells .entry)) (now (fog .entry)) (now (light .entry)))
-        (r .progress) (r .at) (st (now (cells .exit)) (now (fog .exit)) (now (light .exit)))
+        (r .progress) (r .at) (st (now (cells .exit)) (now (fog .exit)) (now (light .exit))) (r .differences)
         ⌝ }
 {
     if !((p.fault == 0) & (p.step <= 1) & (p.id <= 0xFFFF) & (p.come <= 65535)) {
-        return Reached { progress: p, at };
+        return Reached {
+            progress: p,
+            at,
+            differences: 0,
+        };
     }
     let n = run_length(p.left, p.come, part.len() - at);
     let first = p.id + p.step;
     let last = commands::last_id(first, n - 1, p.step);
     if !commands::is_clear(first, last, p.mask) {
-        return Reached { progress: p, at };
+        return Reached {
+            progress: p,
+            at,
+            differences: 0,
+        };
     }
     let h = Header {
         id: first,
@@ -383,7 +446,7 @@ fn take_extras(
         count: n - 1,
         step: p.step,
     };
-    put_command(cells, fog, light, slots, held, h, part[at], part, at + 1);
+    let differences = put_command(cells, fog, light, slots, held, h, part[at], part, at + 1);
     let mut q = p;
     q.come = p.come + n;
     q.id = last;
@@ -391,6 +454,7 @@ fn take_extras(
     Reached {
         progress: q,
         at: at + n as usize,
+        differences: differences as usize,
     }
 }
 
@@ -409,7 +473,7 @@ fn take_several(
     requires { ⌜ at < length (now part) ⌝ }
     ensures { λ r. ⌜
         Leads (now (part .entry)) p at (st (now (cells .entry)) (now (fog .entry)) (now (light .entry)))
-        (r .progress) (r .at) (st (now (cells .exit)) (now (fog .exit)) (now (light .exit)))
+        (r .progress) (r .at) (st (now (cells .exit)) (now (fog .exit)) (now (light .exit))) (r .differences)
         ⌝ }
 {
     if 0 < p.left {
@@ -418,7 +482,11 @@ fn take_several(
     if (p.left == 0) & (p.pad == 0) & (p.begun == 0) & (p.fault == 0) {
         return take_commands(p, cells, fog, light, slots, held, part, at);
     }
-    Reached { progress: p, at }
+    Reached {
+        progress: p,
+        at,
+        differences: 0,
+    }
 }
 
 // Some words from `at` on, and one at least.
@@ -437,7 +505,7 @@ fn take_some(
     ensures further { λ r. ⌜ at < r .at ⌝ }
     ensures leads { λ r. ⌜
         Leads (now (part .entry)) p at (st (now (cells .entry)) (now (fog .entry)) (now (light .entry)))
-        (r .progress) (r .at) (st (now (cells .exit)) (now (fog .exit)) (now (light .exit)))
+        (r .progress) (r .at) (st (now (cells .exit)) (now (fog .exit)) (now (light .exit))) (r .differences)
         ⌝ }
 {
     let r = take_several(p, cells, fog, light, slots, held, part, at);
@@ -448,7 +516,7 @@ fn take_some(
     take_one(reached, cells, fog, light, slots, held, part, r.at)
 }
 
-// A part, from its first word to its last.
+// A part, from its first word to its last. The differences of its writes are added at the end.
 pub fn take_part(
     p: Progress,
     cells: &mut [u32],
@@ -457,7 +525,12 @@ pub fn take_part(
     part: &[u32],
 ) -> Progress
     requires { ⌜ Lengths (now cells) (now fog) (now light) ⌝ }
-    ensures progress { λ r. ⌜ r ≡ after p (now (part .entry)) ⌝ }
+    ensures progress { λ r. ⌜
+        r
+        ≡ tallied (after p (now (part .entry)))
+        (plus (p .differences)
+        (differences (st (now (cells .entry)) (now (fog .entry)) (now (light .entry))) (made p (now (part .entry)))))
+        ⌝ }
     ensures state { λ _. ⌜
         st (now (cells .exit)) (now (fog .exit)) (now (light .exit))
         ≡ applyAll (st (now (cells .entry)) (now (fog .entry)) (now (light .entry))) (made p (now (part .entry)))
@@ -467,11 +540,14 @@ pub fn take_part(
     let held = registers::held::held_table();
     let mut q = p;
     let mut at: usize = 0;
+    let mut n: usize = 0;
     while at < part.len() {
         let r = take_some(q, cells, fog, light, &slots, &held, part, at);
         let reached = r.progress;
         q = reached;
         at = r.at;
+        n += r.differences;
     }
+    q.differences = std::num::wrapping_add_u32(p.differences, (n % 0x100000000) as u32);
     q
 }

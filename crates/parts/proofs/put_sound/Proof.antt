@@ -2,14 +2,14 @@
 use mathlib.Core.Path.{_∙_}
 use Rattle.words.specs.Writes.{writing}
 use Rattle.registers.specs.State.{st}
-use Rattle.parts.proofs.Makes.{sound-none, sound-one}
+use Rattle.parts.proofs.Makes.{sound-none, sound-one, counts-none, counts-one}
 use borrow.Author.Needs.{needs}
 use Rattle.parts.proofs.put_sound.Statement.{statement}
 use Rattle.parts.proofs.put_sound.Tie as tie
 
 returns : tie.Need-returns
 returns c =
-    sound-none _ _ _ (c .if1 .taken)
+    (counts-none _ _ _ (c .if1 .taken), sound-none _ _ _ (c .if1 .taken))
 
 spread-mask-requires : tie.Need-spread-mask-requires
 spread-mask-requires c κs = search needs
@@ -33,8 +33,13 @@ returns-2 c =
     let at-if1 = at-spread-mask .before in
     let at-start = at-if1 .before .before .before .before in
     let a = at-start .args in
-    rw (at-spread-mask .spread-mask .ensures) at (at-put-one .put-one .ensures)
-    ∙ sound-one (st (a .cells .now) (a .fog .now) (a .light .now)) (a .fault) (writing (a .id) (a .mask) (a .value)) (at-if1 .if1 .left)
+    let s = st (a .cells .now) (a .fog .now) (a .light .now) in
+    let w = writing (a .id) (a .mask) (a .value) in
+    let e = at-put-one .put-one .ensures in
+    let b = at-spread-mask .spread-mask .ensures in (
+      rw b at (e .0 .0) ∙ counts-one s (a .fault) w (at-if1 .if1 .left),
+      rw b at (e .1) ∙ sound-one s (a .fault) w (at-if1 .if1 .left),
+    )
 
 pub put-sound-spec : {M : Type 1} → statement M
 put-sound-spec =

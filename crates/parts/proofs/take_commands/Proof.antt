@@ -1,5 +1,5 @@
--- The invariant: the commands so far lead from the first to here. Assumes nothing.
-use mathlib.Core.Path.{_≡_}
+-- The invariant: the commands so far lead from the first to here, by writes of which so many made a difference. Assumes nothing.
+use mathlib.Core.Path.{_≡_, refl}
 use mathlib.Core.Bool.{true}
 use Prim.Native.Nat.{_+_, _-_, _*_, _/_, _≤_, _<_}
 use native.Mathlib.Omega.{arith}
@@ -17,15 +17,15 @@ use Rattle.parts.proofs.take_commands.Statement.{statement}
 use Rattle.parts.proofs.take_commands.Tie as tie
 
 abbrev Inv-commands : tie.InvT-commands
-Inv-commands p cells₀ fog₀ light₀ slots held part at come₀ place₀ first₀ id₀ mask₀ step₀ writes₀ i₀
-    cells fog light come place first id mask step writes i =
+Inv-commands p cells₀ fog₀ light₀ slots held part at come₀ place₀ first₀ id₀ mask₀ step₀ writes₀ i₀ differences₀
+    cells fog light come place first id mask step writes i differences =
     (length cells ≡ 768) × (length fog ≡ 128) × (length light ≡ 6144)
-    × Leads part p at (st cells₀ fog₀ light₀) (so-far p come place first id mask step writes) i (st cells fog light)
+    × Leads part p at (st cells₀ fog₀ light₀) (so-far p come place first id mask step writes) i (st cells fog light) differences
     × (come < 0x100000000)
 
 abbrev μ-commands : tie.MeasureT-commands
-μ-commands p cells₀ fog₀ light₀ slots held part at come₀ place₀ first₀ id₀ mask₀ step₀ writes₀ i₀
-    cells fog light come place first id mask step writes i =
+μ-commands p cells₀ fog₀ light₀ slots held part at come₀ place₀ first₀ id₀ mask₀ step₀ writes₀ i₀ differences₀
+    cells fog light come place first id mask step writes i differences =
     length part - i
 
 -- the next command's words are here and below the limit, and none of its writes can be at fault
@@ -142,6 +142,17 @@ put-command-requires c κs =
       (omega (arith, h .0), omega (arith, h .2), omega (arith, h .3), omega (arith, h .2, f .0, t)),
     )
 
+cast-differences : tie.Need-cast-differences Inv-commands μ-commands
+cast-differences c = search needs
+
+add-differences : tie.Need-add-differences Inv-commands μ-commands
+add-differences c =
+    let at-put-command = c .before .before .before .before .before .before in
+    let at-commands = at-put-command .before .before .before .before .before .before .before .before .before .before .before .before in
+    let at-start = at-commands .before .before .before .before .before in
+    let e = at-commands .commands .inv .3 in
+    omega (arith, at-start .good, e .few, e .inside)
+
 add-come : tie.Need-add-come Inv-commands μ-commands
 add-come c = search needs
 
@@ -219,11 +230,12 @@ commands-again c =
       omega (arith, o .inv .1, w .kept .1 .0),
       omega (arith, o .inv .2, w .kept .1 .1 .0),
       rw (at-words-taken .words-taken .ensures, at-last-id .last-id .ensures, c .wrapping-add-u32 .ensures, h .0, h .1, h .2, h .3, even)
-          (leads-on l (a .p) p _ (a .at) (o .i) (o .i + wordsOf x) s t _ (o .inv .3)
-          (leads-by l p _ (o .i) (o .i + wordsOf x) t _ _
+          (leads-on l (a .p) p _ (a .at) (o .i) (o .i + wordsOf x) s t _ _ _ _ (o .inv .3)
+          (leads-by l p _ (o .i) (o .i + wordsOf x) t _ _ _
           (command-way l (o .i) p (b .1) (b .2) (b .3) (b .4) here (f .1)
           (λ k y z. clear-fault (idOf x) (lastId (idOf x) (countOf x) (stepOf x)) k (maskOf x) (f .2) y z))
-          (omega arith) here (rw (h .0, h .1, h .2, h .3) at (w .ensures)))),
+          here (rw (h .0, h .1, h .2, h .3) at (w .ensures .1)) (rw (h .0, h .1, h .2, h .3) at (w .ensures .0)))
+          refl),
       omega (arith, h .2, f .1),
     )
 
@@ -277,6 +289,8 @@ take-commands-spec =
     shared-slice-read-put-command
     add-put-command
     put-command-requires
+    cast-differences
+    add-differences
     add-come
     mul-come
     add-come-2

@@ -89,15 +89,18 @@ add-q c = search needs
 sub-q : tie.Need-sub-q
 sub-q c = search needs
 
-cast-t23 : tie.Need-cast-t23
-cast-t23 c = search needs
+cast-t24 : tie.Need-cast-t24
+cast-t24 c = search needs
 
-add-t22 : tie.Need-add-t22
-add-t22 c =
+add-t23 : tie.Need-add-t23
+add-t23 c =
     let at-run-length = c .before .before .before .before .before .before .before .before .before .before .before .before .before
     .before .before .before .before in
     let at-start = at-run-length .before .before .before .before .before .before .before .before .before .before in
     omega (arith, at-start .good, at-start .pre .1 .0, at-run-length .run-length .ensures .4)
+
+cast-t33 : tie.Need-cast-t33
+cast-t33 c = search needs
 
 same-length : tie.Need-same-length
 same-length c = search needs
@@ -123,11 +126,12 @@ returns-3 c =
     let f = plain at-if1 in
     let e = at-last-id .last-id .ensures in
     let b = at-start .pre .1 in
+    let w = at-put-command .put-command .ensures in
     let sure = sym (at-is-clear .is-clear .ensures) ∙ not-false _ (at-if2 .if2 .left) in
     rw e
-    (leads-by l (a .p) _ (a .at) _ (st (a .cells .now) (a .fog .now) (a .light .now)) _ _
+    (leads-by l (a .p) _ (a .at) _ (st (a .cells .now) (a .fog .now) (a .light .now)) _ _ _
     (run-way l _ (a .at) (a .p) (n .0) (omega (arith, n .3, b .0)) (n .2) (n .1) (f .0) (f .1) (f .2) (n .4) (rw (← e) sure))
-    (omega (arith, n .0)) (omega (arith, n .3, b .0)) (at-put-command .put-command .ensures))
+    (omega (arith, n .3, b .0)) (w .1) (w .0))
 
 pub take-extras-spec : {M : Type 1} → statement M
 take-extras-spec =
@@ -148,8 +152,9 @@ take-extras-spec =
     put-command-requires
     add-q
     sub-q
-    cast-t23
-    add-t22
+    cast-t24
+    add-t23
+    cast-t33
     same-length
     same-length-2
     same-length-3

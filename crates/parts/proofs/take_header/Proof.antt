@@ -39,9 +39,10 @@ returns c =
     let at-first-fault = at-put-sound .before .before .before .before in
     let at-parts = at-first-fault .before in
     let h = at-parts .parts .ensures in
-    let f = at-first-fault .first-fault .ensures in (
+    let f = at-first-fault .first-fault .ensures in
+    let w = at-put-sound .put-sound .ensures in (
       rw (f, c .wrapping-add-u32 .ensures, h .0, h .1, h .2, h .3),
-      rw (← (h .0), ← (h .1), ← f) (at-put-sound .put-sound .ensures),
+      (rw (← (h .0), ← (h .1), ← f) (w .0), rw (← (h .0), ← (h .1), ← f) (w .1)),
     )
 
 pub take-header-spec : {M : Type 1} → statement M

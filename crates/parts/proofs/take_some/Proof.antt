@@ -54,14 +54,15 @@ same-length-6 c = search needs
 returns-2 : tie.Need-returns-2
 returns-2 c =
     let at-take-one = c .before .before .before .before .before .before in
-    let at-take-several = at-take-one .before .before .before .before .before .before .before .before .before .before .before .before
-    .before in
+    let at-if1 = at-take-one .before .before .before .before .before in
+    let at-take-several = at-if1 .before .before .before .before .before .before .before .before in
     let at-start = at-take-several .before .before .before .before .before .before .before .before in
     let a = at-start .args in
     let one = at-take-one .take-one .ensures in
     let w = at-take-several .take-several .ensures in (
-      omega (arith, one .0, w .further),
-      leads-on (a .part .now) (a .p) _ _ (a .at) _ _ (st (a .cells .now) (a .fog .now) (a .light .now)) _ _ w (one .1),
+      omega (arith, one .0, w .few),
+      leads-on (a .part .now) (a .p) _ _ (a .at) _ _ (st (a .cells .now) (a .fog .now) (a .light .now)) _ _ _ _ _ w (one .1)
+          (omega (arith, w .few, at-if1 .if1 .left)),
     )
 
 pub take-some-spec : {M : Type 1} → statement M

@@ -1,5 +1,6 @@
 -- Each way out is one of the six cases of a word. Assumes nothing.
 use mathlib.Core.Path.{sym, _∙_}
+use Rattle.registers.proofs.Differences.{differences-none}
 use Rattle.commands.proofs.Applying.{apply-none}
 use Rattle.parts.proofs.Steps.{takes-past, takes-extra, takes-padding, takes-header, takes-first, takes-nothing}
 use borrow.Author.Needs.{needs}
@@ -11,7 +12,7 @@ returns c =
     let at-start = c .before .before .before .before .before in
     let a = at-start .args in
     let t = takes-past (a .p) (a .x) (c .if1 .taken) in
-    (sym (t .progress), rw (t .writes) (sym (apply-none _)))
+    (sym (t .progress), (rw (t .writes) (sym (differences-none _)), rw (t .writes) (sym (apply-none _))))
 
 add-q : tie.Need-add-q
 add-q c = search needs
@@ -49,7 +50,8 @@ returns-2 c =
     let t = takes-extra (a .p) (a .x) (at-if1 .if1 .left) (at-if2 .if2 .taken) in
     let i = at-wrapping-add-u32 .wrapping-add-u32 .ensures in
     let f = at-first-fault .first-fault .ensures in
-    (rw (f, i) (sym (t .progress)), rw (t .writes, ← i, ← f) (at-put-sound .put-sound .ensures))
+    let w = at-put-sound .put-sound .ensures in
+    (rw (f, i) (sym (t .progress)), (rw (t .writes, ← i, ← f) (w .0), rw (t .writes, ← i, ← f) (w .1)))
 
 sub-q-2 : tie.Need-sub-q-2
 sub-q-2 c = search needs
@@ -62,7 +64,7 @@ returns-3 c =
     let at-start = at-if1 .before .before .before .before .before in
     let a = at-start .args in
     let t = takes-padding (a .p) (a .x) (at-if1 .if1 .left) (at-if2 .if2 .left) (at-if3 .if3 .taken) in
-    (sym (t .progress), rw (t .writes) (sym (apply-none _)))
+    (sym (t .progress), (rw (t .writes) (sym (differences-none _)), rw (t .writes) (sym (apply-none _))))
 
 take-header-requires : tie.Need-take-header-requires
 take-header-requires c κs = search needs
@@ -87,7 +89,7 @@ returns-4 c =
     let a = at-start .args in
     let t = takes-header (a .p) (a .x) (at-if1 .if1 .left) (at-if2 .if2 .left) (at-if3 .if3 .left) (at-if4 .if4 .taken) in
     let h = at-take-header .take-header .ensures in
-    (h .0 ∙ sym (t .progress), rw (t .writes) (h .1))
+    (h .0 ∙ sym (t .progress), (rw (t .writes) (h .1 .0), rw (t .writes) (h .1 .1)))
 
 returns-5 : tie.Need-returns-5
 returns-5 c =
@@ -98,7 +100,7 @@ returns-5 c =
     let at-start = at-if1 .before .before .before .before .before in
     let a = at-start .args in
     let t = takes-first (a .p) (a .x) (at-if1 .if1 .left) (at-if2 .if2 .left) (at-if3 .if3 .left) (at-if4 .if4 .left) (c .if5 .taken) in
-    (sym (t .progress), rw (t .writes) (sym (apply-none _)))
+    (sym (t .progress), (rw (t .writes) (sym (differences-none _)), rw (t .writes) (sym (apply-none _))))
 
 returns-6 : tie.Need-returns-6
 returns-6 c =
@@ -109,7 +111,7 @@ returns-6 c =
     let at-start = at-if1 .before .before .before .before .before in
     let a = at-start .args in
     let t = takes-nothing (a .p) (a .x) (at-if1 .if1 .left) (at-if2 .if2 .left) (at-if3 .if3 .left) (at-if4 .if4 .left) (c .if5 .left) in
-    (sym (t .progress), rw (t .writes) (sym (apply-none _)))
+    (sym (t .progress), (rw (t .writes) (sym (differences-none _)), rw (t .writes) (sym (apply-none _))))
 
 pub take-word-spec : {M : Type 1} → statement M
 take-word-spec =
