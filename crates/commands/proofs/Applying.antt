@@ -11,9 +11,9 @@ use Rattle.words.specs.Writes.{Write}
 use Rattle.words.specs.declared.Header.{Header}
 use Rattle.registers.specs.State.{State}
 use Rattle.registers.specs.Applied.{put, apply, applyAll, differs, differences}
-use Rattle.registers.proofs.Differences.{differences-none, differences-more}
+use Rattle.registers.proofs.Differences.{differences-none, differences-more, differences-most}
 use Rattle.commands.specs.Run.{runFrom, runWith}
-use Rattle.commands.proofs.Runs.{runFrom-done, runFrom-next}
+use Rattle.commands.proofs.Runs.{runFrom-done, runFrom-next, runFrom-length}
 
 pub apply-none : (s : State) → applyAll s [] ≡ s
 unfolding applyAll
@@ -73,6 +73,12 @@ module _ (l : List ℕ) (m : ℕ) where
       let t : suc n - 1 ≡ n = omega arith in
       let r = alike-counts b i a (put s i (spread m) (getD l j 0)) (j + 1) n in
       same-counts s j (suc n) i (omega arith) ∙ rw (t, a s (getD l j 0), r) (one-more b n)
+
+-- A COMMAND: no more than its writes make a difference
+pub command-few : (s : State) (h : Header) (v : ℕ) (l : List ℕ) (j : ℕ) → differences s (runWith h v l j) ≤ suc (h .count)
+command-few s h v l j =
+    let n = runFrom-length l j (h .count) (h .id + h .step) (h .mask) (h .step) in
+    rw n at (differences-most s (runWith h v l j))
 
 -- A COMMAND TO ONE ID: its first write, and then the rest
 pub same-first : (h : Header) → h .step ≡ 0 → (s : State) (v : ℕ) (l : List ℕ) (j : ℕ)
