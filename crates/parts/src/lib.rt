@@ -244,9 +244,9 @@ fn put_run(
     n
 }
 
-// The writes of a command with the header `h`: its first value is `first`, the others stand in `list` from `from` on. Tells how many of them
-// made a difference. `commands::apply_run` does the same, and is left to `reader`: a function that is called from more places than one is
-// not put in line, and reading was slower.
+// The writes of a command with the header `h`: its first value is `first`, the others stand in `list` from `from` on. Tells how many of
+// them made a difference. `commands::apply_run` does the same, and is left to `reader`: a function that is called from more places than one
+// is not put in line, and reading was slower.
 fn put_command(
     cells: &mut [u32],
     fog: &mut [u32],
