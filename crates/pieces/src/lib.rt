@@ -221,17 +221,16 @@ pub fn close(
     match verdict_so_far(p) {
         ListVerdict::Refused(why) => {
             copies::take_state(spare_cells, spare_fog, spare_light, cells, fog, light);
-            Closed {
-                verdict: Reading::Refused(why),
-                progress,
-            }
+            let verdict = Reading::Refused(why);
+            Closed { verdict, progress }
         }
         ListVerdict::Accepted(writes) => {
             copies::take_state(cells, fog, light, spare_cells, spare_fog, spare_light);
+            let differences = p.differences;
             Closed {
                 verdict: Reading::Accepted(Counts {
                     writes,
-                    differences: p.differences,
+                    differences,
                 }),
                 progress,
             }
