@@ -10,8 +10,8 @@ use Rattle.registers.specs.State.{State, sized}
 use Rattle.registers.specs.Applied.{applyAll, differences}
 use Rattle.copies.specs.Copy.{taken}
 use Rattle.reader.specs.Read.{ifAnswered}
-use Rattle.pieces.specs.Progress.{fresh, plus, after, made, heldAt, counted, tallied, closing}
-use Rattle.pieces.specs.declared.Progress.{Progress}
+use Rattle.parts.specs.Progress.{fresh, plus, after, made, heldAt, counted, tallied, closing}
+use Rattle.parts.specs.declared.Progress.{Progress}
 use Rattle.pieces.specs.declared.Going.{Going}
 use Rattle.pieces.specs.declared.Going.the-variants.{Come, Refused}
 
