@@ -74,7 +74,7 @@ fn put_sound(
         return 0;
     }
     let bytes = ports::spread_mask(mask);
-    registers::put_one(cells, fog, light, slots, held, id, bytes, value)
+    registers::put_one(cells, fog, light, slots, held, id, bytes, value, 0)
 }
 
 // The progress after a word, and whether the write that it makes made a difference: 1 or 0.
@@ -236,7 +236,7 @@ fn put_run(
     let mut j = from;
     let mut n: u32 = 0;
     while 0 < left {
-        n += registers::put_one(cells, fog, light, slots, held, id, bytes, list[j]);
+        n = registers::put_one(cells, fog, light, slots, held, id, bytes, list[j], n);
         j += 1;
         id += step;
         left -= 1;
@@ -270,7 +270,7 @@ fn put_command(
 {
     let mask = h.mask;
     let bytes = ports::spread_mask(mask);
-    let n = registers::put_one(cells, fog, light, slots, held, h.id, bytes, first);
+    let n = registers::put_one(cells, fog, light, slots, held, h.id, bytes, first, 0);
     if h.count == 0 {
         return n;
     }

@@ -113,14 +113,10 @@ shared-slice-read-put-one c =
     omega (arith, at-start .pre .1 .3, at-loop .loop .inv .1, at-loop-test .loop-test .taken)
 
 put-one-requires : tie.Need-put-one-requires Inv-loop μ-loop
-put-one-requires c κs = search needs
-
-add-n : tie.Need-add-n Inv-loop μ-loop
-add-n c =
-    let at-put-one = c .before .before .before .before .before .before in
-    let at-loop = at-put-one .before .before .before .before .before .before in
+put-one-requires c κs =
+    let at-loop = c .before .before .before .before .before in
     let at-start = at-loop .before .before .before .before .before .before .before in
-    omega (arith, at-start .pre .1 .1, at-loop .loop .inv .2, at-put-one .put-one .ensures .0 .1)
+    let o = at-loop .loop in (o .inv .0, at-start .pre .0 .1, omega (arith, o .inv .2, at-start .pre .1 .1))
 
 add-j : tie.Need-add-j Inv-loop μ-loop
 add-j c =
@@ -205,7 +201,6 @@ put-run-spec =
     mul-put-one
     shared-slice-read-put-one
     put-one-requires
-    add-n
     add-j
     add-id
     sub-left

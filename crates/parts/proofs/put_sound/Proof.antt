@@ -1,5 +1,6 @@
 -- Nothing where there is a fault, else one write. Assumes nothing.
 use mathlib.Core.Path.{_∙_}
+use native.Mathlib.Omega.{arith}
 use Rattle.words.specs.Writes.{writing}
 use Rattle.registers.specs.State.{st}
 use Rattle.parts.proofs.Makes.{sound-none, sound-one, counts-none, counts-one}
@@ -37,7 +38,7 @@ returns-2 c =
     let w = writing (a .id) (a .mask) (a .value) in
     let e = at-put-one .put-one .ensures in
     let b = at-spread-mask .spread-mask .ensures in (
-      rw b at (e .0 .0) ∙ counts-one s (a .fault) w (at-if1 .if1 .left),
+      omega (arith, rw b at (e .0 .0), counts-one s (a .fault) w (at-if1 .if1 .left)),
       rw b at (e .1) ∙ sound-one s (a .fault) w (at-if1 .if1 .left),
     )
 
