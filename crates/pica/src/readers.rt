@@ -1,7 +1,7 @@
 // The twelve words that a C caller keeps of a reading in progress. The contracts cite specs/Readers.antt.
 ghost use mathlib.Core.Path.{_≡_};
 ghost use Rattle.pica.specs.Readers.{progressOf, wordsOf};
-use pieces::Progress;
+use parts::Progress;
 
 pub fn progress_of(reader: &[u32; 12]) -> Progress
     ensures { λ r. ⌜ r ≡ progressOf (now (reader .entry)) ⌝ }
