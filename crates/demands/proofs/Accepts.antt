@@ -6,10 +6,11 @@ use mathlib.Core.Logic.{inl, inr, ⊎-elim}
 use Prim.Native.Nat.{ℕ, _≤_}
 use native.Mathlib.Omega.{arith}
 use borrow.Author.Tests.{eqb-true}
+use Rattle.numbers.specs.Bits.{spread}
 use Rattle.words.specs.Writes.{Write, faultOf, allowed}
 use Rattle.words.proofs.Laws.{allowed-fault}
 use Rattle.registers.specs.State.{State, sized}
-use Rattle.registers.specs.Applied.{apply}
+use Rattle.registers.specs.Applied.{apply, differs}
 use Rattle.registers.specs.declared.Written.{Written}
 use Rattle.registers.specs.declared.Written.the-variants as written
 use Rattle.decode.specs.Decoded.{settingsOf, nameless}
@@ -39,8 +40,8 @@ not-refused s w n p z m a r =
     (⊎-elim (λ x. omega (arith, x .2, m)) (λ x. fault-numbered n (x .2) (sym (x .3) ∙ no-fault))) (r .why)
 
 pub write-accepts : {s t : State} {w : Write} {a : Written} → WriteCall s w a t → sized s ≡ true → w .mask ≤ 15
-    → allowed (w .id) (w .mask) ≡ true → (a ≡ written.Done) × (t ≡ apply s w)
-write-accepts {a = written.Done} c z m e = (refl, write-leaves c .3)
+    → allowed (w .id) (w .mask) ≡ true → (a ≡ written.Done (differs s (w .id) (spread (w .mask)) (w .value))) × (t ≡ apply s w)
+write-accepts {a = written.Done d} c z m e = (ap written.Done (write-leaves c .4), write-leaves c .3)
 write-accepts {s} {t} {w} {a = written.Refused why} c z m e = absurd (not-refused s w _ _ z m e (write-refuses c .1))
 
 -- A STATE of the right lengths in which no register holds a code without a name is decoded

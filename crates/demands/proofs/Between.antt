@@ -1,29 +1,35 @@
 -- BETWEEN A LIST AND ITS WRITES, from the contracts alone: a list's writes, packed, applied one after another, and a packed list's writes.
 -- Assumes nothing.
 use mathlib.Core.Path.{_≡_, sym, ap, _∙_}
-use mathlib.Core.Bool.{true}
+use mathlib.Core.Bool.{Bool, true}
 use mathlib.Core.List.{List, [], _∷_, _++_, map}
 use mathlib.Core.Logic.{_⊎_, inl, inr, ⊎-elim}
-use Prim.Native.Nat.{ℕ, _≤_, _<_}
+use Prim.Native.Nat.{ℕ, _+_, _≤_, _<_}
 use native.Mathlib.Omega.{arith}
 use lib.ListN.{length, take, drop, length-map}
 use lib.Seq.{take-at, drop-at}
 use borrow.Author.Tests.{eqb-true}
 use Rattle.numbers.specs.Answer.{answered}
+use Rattle.numbers.specs.Bits.{spread}
+use Rattle.numbers.specs.Pick.{pick}
 use Rattle.words.specs.Writes.{Write, idsIn, masksIn, valuesIn, faultOf}
 use Rattle.words.specs.Commands.{expansion, wellFormed}
 use Rattle.words.specs.declared.Refusal.{Refusal}
 use Rattle.words.proofs.Laws.{allowed-fault}
 use Rattle.registers.specs.State.{State, sized}
-use Rattle.registers.specs.Applied.{apply, applyAll}
+use Rattle.registers.specs.Applied.{apply, applyAll, differs, differences}
 use Rattle.registers.specs.Single.{refusalOf}
 use Rattle.registers.specs.declared.Written.{Written}
 use Rattle.registers.specs.declared.Written.the-variants as written
 use Rattle.registers.proofs.Once.{told-one as write-told-one}
 use Rattle.registers.proofs.Single.{fault-refusal}
+use Rattle.registers.proofs.Differences.{differences-none, differences-more}
 use Rattle.reader.specs.ListVerdict.{verdict, allAllowed}
 use Rattle.reader.specs.declared.ListVerdict.{ListVerdict}
 use Rattle.reader.specs.declared.ListVerdict.the-variants as list-verdict
+use Rattle.reader.specs.declared.Reading.{Reading}
+use Rattle.reader.specs.declared.Reading.the-variants as reading
+use Rattle.reader.specs.Read.{readAnswer, readAnswers}
 use Rattle.reader.proofs.Accepted.{verdict-accepted}
 use Rattle.commands.proofs.Applying.{apply-none, apply-more}
 use Rattle.reader.proofs.Once.{told-one}
@@ -40,8 +46,9 @@ use Rattle.demands.specs.Refusals.{OneLength, WritesRefused}
 use Rattle.demands.proofs.Lengths.{apply-sized}
 use Rattle.demands.proofs.Listed.{writes-tested, writes-given, refused-writes, as-read, writes-row}
 use Rattle.demands.proofs.Said.{said-packable}
+use Rattle.demands.proofs.Both.{neither-given}
 use Rattle.demands.proofs.Calls.{WriteCall, ReadCall, WritesCall, PackCall, write-call, read-call, writes-call}
-use Rattle.demands.proofs.EndToEnd.{read-accepts, packed-put, packs}
+use Rattle.demands.proofs.EndToEnd.{counts-one, read-accepts, packed-put, packs}
 
 -- A REFUSAL is by 7, a number of the reader's or 22, with its place, and leaves the three buffers as they were
 pub writes-refuses : {l is ms vs is′ ms′ vs′ : List ℕ} {why : Refusal} → WritesCall l is ms vs (list-verdict.Refused why) is′ ms′ vs′
@@ -54,10 +61,12 @@ writes-refuses {l} {is} {ms} {vs} {why = why} c =
 
 -- "THEN THE READER'S OF THE LIST": what a reading refuses for the list, and not for its state, is refused here by the same number and place
 pub same-refusal : {s t : State} {l is ms vs is′ ms′ vs′ : List ℕ} {why : Refusal} {r : ListVerdict}
-    → ReadCall s l (list-verdict.Refused why) t → sized s ≡ true → WritesCall l is ms vs r is′ ms′ vs′ → OneLength is ms vs
+    → ReadCall s l (reading.Refused why) t → sized s ≡ true → WritesCall l is ms vs r is′ ms′ vs′ → OneLength is ms vs
     → r ≡ list-verdict.Refused why
+unfolding readAnswers
 same-refusal {s} {l = l} {is} {ms} {vs} {why = why} {r} d z c o =
-    told-one r _ (writes-call c .0 ∙ as-read l is ms vs s z o (why .number) (why .place) (sym (read-call d .0)))
+    let e = neither-given (readAnswer s l) (why .number) (why .place) (differences s (expansion l)) (read-call d .0) in
+    told-one r _ (writes-call c .0 ∙ as-read l is ms vs s z o (why .number) (why .place) e)
 
 -- AN ANSWER: the first n places are the list's expansion, and those past them are as they were
 pub record ListedIn (l is ms vs is′ ms′ vs′ : List ℕ) (n : ℕ) : Type 0 where
@@ -189,28 +198,44 @@ InTurn s (w ∷ ws) t = (u : State) × (r : Written) × WriteCall s w r u × InT
 -- none of them is refused
 abbrev pub EachDone : (s : State) (ws : List Write) (t : State) → InTurn s ws t → Type 0
 EachDone s [] t c = Unit {0}
-EachDone s (w ∷ ws) t c = (c .1 ≡ written.Done) × EachDone (c .0) ws t (c .3)
+EachDone s (w ∷ ws) t c = ((d : Bool) × (c .1 ≡ written.Done d)) × EachDone (c .0) ws t (c .3)
+
+-- how many of them told that they made a difference
+abbrev pub one : Written → ℕ
+one (written.Done d) = pick d 1 0
+one (written.Refused why) = 0
+
+abbrev pub tally : (s : State) (ws : List Write) (t : State) → InTurn s ws t → ℕ
+tally s [] t c = 0
+tally s (w ∷ ws) t c = one (c .1) + tally (c .0) ws t (c .3)
 
 in-turn : (ws : List Write) (s t : State) → sized s ≡ true → Packable ws → (c : InTurn s ws t)
-    → EachDone s ws t c × (t ≡ applyAll s ws)
-in-turn [] s t z p c = (tt, c ∙ sym (apply-none s))
+    → EachDone s ws t c × (t ≡ applyAll s ws) × (tally s ws t c ≡ differences s ws)
+in-turn [] s t z p c = (tt, c ∙ sym (apply-none s), sym (differences-none s))
 in-turn (w ∷ ws) s t z p c =
     let u = c .0 in
+    let d = differs s (w .id) (spread (w .mask)) (w .value) in
     let f : refusalOf s w ≡ 0 =
     fault-refusal s w z (p .0) ∙ eqb-true (faultOf (w .id) (w .mask)) 0 (sym (allowed-fault (w .id) (w .mask)) ∙ p .1) in
     let k = write-call (c .2) in
     let a = k .1 in
     let e : u ≡ apply s w = rw f at a in
-    let d = k .0 in
-    let done : c .1 ≡ written.Done = write-told-one (c .1) written.Done (rw f at d) in
+    let b = k .0 in
+    let done : c .1 ≡ written.Done d = write-told-one (c .1) (written.Done d) (rw f at b) in
     let z′ : sized u ≡ true = ap sized e ∙ apply-sized s w ∙ z in
     let rest = in-turn ws u t z′ (p .2) (c .3) in
-    ((done, rest .0), rest .1 ∙ ap (λ (x : State). applyAll x ws) e ∙ sym (apply-more s w ws))
+    let counts : tally u ws t (c .3) ≡ differences (apply s w) ws = rest .2 ∙ ap (λ (x : State). differences x ws) e in (
+      ((d, done), rest .0),
+      rest .1 ∙ ap (λ (x : State). applyAll x ws) e ∙ sym (apply-more s w ws),
+      rw (done, counts) (sym (differences-more s w ws)),
+    )
 
-pub writes-then-write : {l is ms vs is′ ms′ vs′ : List ℕ} {n : ℕ} {s t u : State} {r : ListVerdict}
+-- and the differences that reading gives are those that the writes tell, each made on what the ones before it left
+pub writes-then-write : {l is ms vs is′ ms′ vs′ : List ℕ} {n : ℕ} {s t u : State} {r : Reading}
     → WritesCall l is ms vs (list-verdict.Accepted n) is′ ms′ vs′ → sized s ≡ true
     → (w : InTurn s (writes (take n is′) (take n ms′) (take n vs′)) t) → ReadCall s l r u
-    → EachDone s (writes (take n is′) (take n ms′) (take n vs′)) t w × (r ≡ list-verdict.Accepted n) × (u ≡ t)
+    → EachDone s (writes (take n is′) (take n ms′) (take n vs′)) t w
+    × (r ≡ reading.Accepted (record { writes = n; differences = tally s (writes (take n is′) (take n ms′) (take n vs′)) t w })) × (u ≡ t)
 writes-then-write {l} {is} {ms} {vs} {is′} {ms′} {vs′} {n} {s} {t} {u} {r} c z w d =
     let L = writes-listed c in
     let ws = writes (take n is′) (take n ms′) (take n vs′) in
@@ -218,4 +243,8 @@ writes-then-write {l} {is} {ms} {vs} {is′} {ms′} {vs′} {n} {s} {t} {u} {r}
     let p = said-packable ws (record { list = l; short = L .short; says = says-of ws l n v (sym (L .writes)) }) in
     let q = read-accepts d (record { lengths = z; short = L .short; form = L .form; allowed = L .allowed }) in
     let x = in-turn ws s t z p w in
-    (x .0, q .0 ∙ ap list-verdict.Accepted (sym (L .number)), q .1 ∙ ap (applyAll s) (sym (L .writes)) ∙ sym (x .1))
+    let told : differences s (expansion l) ≡ tally s ws t w = ap (differences s) (sym (L .writes)) ∙ sym (x .2) in (
+      x .0,
+      q .0 ∙ ap reading.Accepted (counts-one _ _ (sym (L .number)) told),
+      q .1 ∙ ap (applyAll s) (sym (L .writes)) ∙ sym (x .1),
+    )

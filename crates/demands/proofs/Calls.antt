@@ -15,11 +15,12 @@ use Rattle.registers.specs.Single.{told as write-told, writeAnswer, writeState}
 use Rattle.registers.specs.declared.Written.{Written}
 use Rattle.registers.proofs.write.Reads as write
 use Rattle.registers.proofs.write.Kinds as write-kinds
-use Rattle.reader.specs.Read.{told as read-told, readAnswer, readState}
+use Rattle.reader.specs.Read.{told as list-told, toldBoth, readAnswers, readState}
 use Rattle.reader.specs.declared.ListVerdict.{ListVerdict}
+use Rattle.reader.specs.declared.Reading.{Reading}
 use Rattle.reader.proofs.read.Reads as read
 use Rattle.reader.proofs.read.Kinds as read-kinds
-use Rattle.pieces.specs.Pieces.{opening, openedSpare, feeding, fedSpare, closeAnswer, closeProgress, closedLive, closedSpare}
+use Rattle.pieces.specs.Pieces.{opening, openedSpare, feeding, fedSpare, closeAnswers, closeProgress, closedLive, closedSpare}
 use Rattle.parts.specs.declared.Progress.{Progress}
 use Rattle.pieces.specs.declared.Going.{Going}
 use Rattle.pieces.specs.declared.Closed.{Closed}
@@ -58,7 +59,7 @@ pub record WriteCall (s : State) (w : Write) (answer : Written) (t : State) : Ty
   pub after : st (now (left .0)) (now (left .1 .0)) (now (left .1 .1 .0)) ≡ t
 
 -- `reader::read`, lent the state s and the list l
-pub record ReadCall (s : State) (l : List ℕ) (answer : ListVerdict) (t : State) : Type 0 where
+pub record ReadCall (s : State) (l : List ℕ) (answer : Reading) (t : State) : Type 0 where
   pub lifetimes : Lfts 4
   pub lent : Dens lifetimes read-kinds.ps
   pub left : AtExit (endedOf 4 read-kinds.ps read-kinds.r) lifetimes
@@ -150,7 +151,7 @@ pub record DrawCall (s : State) (g : Given) (incoming : ℕ) (stored : Stored) (
 pub write-call : {s t : State} {w : Write} {a : Written} → WriteCall s w a t → (write-told a ≡ writeAnswer s w) × (t ≡ writeState s w)
 write-call c = rw (← c .state, ← c .given, ← c .after) (c .promise)
 
-pub read-call : {s t : State} {l : List ℕ} {a : ListVerdict} → ReadCall s l a t → (read-told a ≡ readAnswer s l) × (t ≡ readState s l)
+pub read-call : {s t : State} {l : List ℕ} {a : Reading} → ReadCall s l a t → (toldBoth a ≡ readAnswers s l) × (t ≡ readState s l)
 read-call c = rw (← c .state, ← c .list, ← c .after) (c .promise)
 
 pub open-call : {live spare t : State} {a : Going} → OpenCall live spare a t → (a ≡ opening live spare) × (t ≡ openedSpare live spare)
@@ -160,14 +161,14 @@ pub feed-call : {p : Progress} {s t : State} {l : List ℕ} {a : Going} → Feed
 feed-call c = let q = rw (c .progress, c .state, c .list, c .after) at (c .promise) in (q .0, q .1 .0)
 
 pub close-call : {p : Progress} {live spare live′ spare′ : State} {a : Closed} → CloseCall p live spare a live′ spare′
-    → (read-told (a .verdict) ≡ closeAnswer p live spare) × (a .progress ≡ closeProgress p live spare)
+    → (toldBoth (a .verdict) ≡ closeAnswers p live spare) × (a .progress ≡ closeProgress p live spare)
     × (live′ ≡ closedLive p live spare) × (spare′ ≡ closedSpare p live spare)
 close-call c =
     let q = rw (c .progress, c .live, c .spare, c .live-after, c .spare-after) at (c .promise) in
     (q .0, q .1 .0, q .1 .1 .0, q .1 .1 .1)
 
 pub writes-call : {l is ms vs is′ ms′ vs′ : List ℕ} {a : ListVerdict} → WritesCall l is ms vs a is′ ms′ vs′
-    → (read-told a ≡ writesAnswer l is ms vs) × (is′ ≡ writesIds l is ms vs) × (ms′ ≡ writesMasks l is ms vs)
+    → (list-told a ≡ writesAnswer l is ms vs) × (is′ ≡ writesIds l is ms vs) × (ms′ ≡ writesMasks l is ms vs)
     × (vs′ ≡ writesValues l is ms vs)
 writes-call c =
     let p = rw (c .list, c .ids, c .masks, c .values, c .ids-after, c .masks-after, c .values-after) at (c .promise) in

@@ -9,19 +9,20 @@ use native.Mathlib.Omega.{arith}
 use lib.Dec.{eqb, ltb}
 use borrow.Author.Tests.{lt-ltb, le-ltb}
 use Rattle.numbers.specs.Pick.{pick}
-use Rattle.numbers.specs.Answer.{Answer, answered, refused}
+use Rattle.numbers.specs.Answer.{Answer, answered, refused, both, neither, besides}
 use Rattle.registers.specs.State.{State, sized}
-use Rattle.reader.specs.Read.{told as read-told}
+use Rattle.reader.specs.Read.{toldBoth}
 use Rattle.registers.specs.Applied.{applyAll}
 use Rattle.copies.specs.Copy.{taken}
-use Rattle.parts.specs.Progress.{fresh, after, made, heldAt, counted, between, faultNumber, closing}
-use Rattle.pieces.specs.Pieces.{told, bothSized}
+use Rattle.parts.specs.Progress.{fresh, after, made, heldAt, between, faultNumber, closing}
+use Rattle.pieces.specs.Pieces.{told, bothSized, fed}
 use Rattle.parts.specs.declared.Progress.{Progress}
 use Rattle.pieces.specs.declared.Going.{Going}
 use Rattle.pieces.specs.declared.Going.the-variants.{Come}
 use Rattle.pieces.specs.declared.Closed.{Closed}
 use Rattle.pieces.proofs.Calls.{open-wrong, open-right, feed-wrong, feed-right, close-wrong, close-refused, close-accepted}
 use Rattle.demands.specs.Refusals.{In}
+use Rattle.demands.proofs.Both.{both-given, neither-given}
 use Rattle.demands.proofs.Alike.{Alike}
 use Rattle.demands.proofs.Taken.{sized-kept, taken-alike}
 use Rattle.demands.proofs.Beside.{Beside, beside-same, beside-run, beside-taken}
@@ -36,32 +37,33 @@ open-answers {live} {spare} c e =
     let r = open-right live spare e in (k .0 ∙ sym (r .0), k .1 ∙ sym (r .1))
 
 pub feed-answers : {p : Progress} {s t : State} {l : List ℕ} {a : Going} → FeedCall p s l a t → sized s ≡ true
-    → (a ≡ Come (counted (after p l))) × (t ≡ applyAll s (made p l)) × (sized t ≡ true)
+    → (a ≡ Come (fed p s l)) × (t ≡ applyAll s (made p l)) × (sized t ≡ true)
 feed-answers {p} {s} {t} {l} c e =
     let k = feed-call c in
     let r = feed-right p s l e in
     let i = k .1 ∙ sym (r .1) in (k .0 ∙ sym (r .0), i, rw i (sized-kept s (made p l) ∙ e))
 
--- "On acceptance the live state takes those of the spare", which keeps what it has; "on any other refusal the spare those of the
--- live"; "and
--- the reader is as freshly opened"
+-- "On acceptance the live state takes those of the spare", which keeps what it has; "on any other refusal the spare those of the live";
+-- "and the reader is as freshly opened". The differences are those counted so far
 module _ {p : Progress} {live spare live′ spare′ : State} {c : Closed} (k : CloseCall p live spare c live′ spare′)
     (e : bothSized live spare ≡ true) where
-  told-closing : read-told (c .verdict) ≡ closing p
+  told-closing : toldBoth (c .verdict) ≡ besides (closing p) (p .differences)
   told-closing = close-call k .0 ∙ right-answer live spare p e
 
-  pub close-accepts : (n : ℕ) → read-told (c .verdict) ≡ answered n
-      → (live′ ≡ taken live spare) × Alike live′ spare × (spare′ ≡ spare) × (c .progress ≡ fresh)
-  close-accepts n v =
-      let r = close-accepted live spare p n e (sym v ∙ told-closing) in
-      let d = both-sized live spare e in
+  pub close-accepts : (n d : ℕ) → toldBoth (c .verdict) ≡ both n d
+      → (d ≡ p .differences) × (live′ ≡ taken live spare) × Alike live′ spare × (spare′ ≡ spare) × (c .progress ≡ fresh)
+  close-accepts n d v =
+      let b = both-given (closing p) n (p .differences) d (sym v ∙ told-closing) in
+      let r = close-accepted live spare p n e (sym (b .0)) in
+      let z = both-sized live spare e in
       let i = close-call k .2 ∙ sym (r .2) in
-      (i, rw i (taken-alike live spare (d .0) (d .1)), close-call k .3 ∙ sym (r .3), close-call k .1 ∙ sym (r .1))
+      (b .1, i, rw i (taken-alike live spare (z .0) (z .1)), close-call k .3 ∙ sym (r .3), close-call k .1 ∙ sym (r .1))
 
-  pub close-refuses : (n x : ℕ) → read-told (c .verdict) ≡ refused n x
+  pub close-refuses : (n x : ℕ) → toldBoth (c .verdict) ≡ neither n x
       → (live′ ≡ live) × (spare′ ≡ taken spare live) × Alike spare′ live × (c .progress ≡ fresh)
   close-refuses n x v =
-      let r = close-refused live spare p n x e (sym v ∙ told-closing) in
+      let y = neither-given (closing p) n x (p .differences) (sym v ∙ told-closing) in
+      let r = close-refused live spare p n x e (sym y) in
       let d = both-sized live spare e in
       let i = close-call k .3 ∙ sym (r .3) in
       (close-call k .2 ∙ sym (r .2), i, rw i (taken-alike spare live (d .1) (d .0)), close-call k .1 ∙ sym (r .1))
@@ -82,7 +84,7 @@ wrong-length-feed {p} {s} {t} {l} c e =
 
 pub wrong-length-close : {p : Progress} {live spare live′ spare′ : State} {c : Closed} → CloseCall p live spare c live′ spare′
     → bothSized live spare ≡ false
-    → (read-told (c .verdict) ≡ refused 6 0) × (c .progress ≡ p) × (live′ ≡ live) × (spare′ ≡ spare)
+    → (toldBoth (c .verdict) ≡ neither 6 0) × (c .progress ≡ p) × (live′ ≡ live) × (spare′ ≡ spare)
 wrong-length-close {p} {live} {spare} c e =
     let k = close-call c in
     let r = close-wrong live spare p e in (k .0 ∙ sym (r .0), k .1 ∙ sym (r .1), k .2 ∙ sym (r .2), k .3 ∙ sym (r .3))
@@ -145,8 +147,10 @@ close-numbered p = go (ltb 65536 (p .come)) (between p) (eqb (p .fault) 0)
     go false true false = fault-told (eqb (p .fault) 3) (eqb (p .fault) 4)
 
 pub close-numbers : {p : Progress} {live spare live′ spare′ : State} {c : Closed} (n x : ℕ) → CloseCall p live spare c live′ spare′
-    → bothSized live spare ≡ true → read-told (c .verdict) ≡ refused n x → In n (1 ∷ 2 ∷ 3 ∷ 4 ∷ 5 ∷ [])
-close-numbers {p} n x k e v = rw (sym (told-closing k e) ∙ v) at (close-numbered p)
+    → bothSized live spare ≡ true → toldBoth (c .verdict) ≡ neither n x → In n (1 ∷ 2 ∷ 3 ∷ 4 ∷ 5 ∷ [])
+close-numbers {p} n x k e v =
+    let y : closing p ≡ refused n x = neither-given (closing p) n x (p .differences) (sym v ∙ told-closing k e) in
+    rw y at (close-numbered p)
 
 -- and feeding answers at most 65,537
 pub fed-at-most : {p q : Progress} {s t : State} {l : List ℕ} → FeedCall p s l (Come q) t → q .come ≤ 65537

@@ -12,21 +12,24 @@ use lib.ListN.{length, take, drop}
 use lib.Seq.{take-at, drop-at}
 use borrow.Author.Tests.{ltb-false, eq-eqb}
 use Rattle.numbers.specs.Pick.{pick}
-use Rattle.numbers.specs.Answer.{answered}
+use Rattle.numbers.specs.Answer.{answered, unlessFault}
+use Rattle.numbers.specs.Bits.{spread}
 use Rattle.numbers.proofs.Answers.{told-apart}
 use Rattle.words.specs.Writes.{Write, faultOf, allowed}
 use Rattle.words.proofs.Laws.{allowed-fault}
 use Rattle.words.specs.Commands.{expansion, wellFormed}
 use Rattle.words.specs.declared.Refusal.{Refusal}
 use Rattle.registers.specs.State.{State, sized}
-use Rattle.registers.specs.Applied.{apply, applyAll}
-use Rattle.registers.specs.Single.{refusalOf, atZero, unless}
+use Rattle.registers.specs.Applied.{apply, applyAll, differs, difference, differences}
+use Rattle.registers.specs.Single.{refusalOf, unless}
 use Rattle.registers.specs.declared.Written.the-variants as written
 use Rattle.reader.specs.ListVerdict.{allAllowed}
-use Rattle.reader.specs.Read.{readAnswer, readState}
-use Rattle.reader.specs.declared.ListVerdict.{ListVerdict}
-use Rattle.reader.specs.declared.ListVerdict.the-variants as list-verdict
-use Rattle.reader.proofs.Once.{told-one}
+use Rattle.reader.specs.Read.{toldBoth, readAnswer, readAnswers, readState}
+use Rattle.reader.specs.declared.Counts.{Counts}
+use Rattle.reader.specs.declared.Reading.{Reading}
+use Rattle.reader.specs.declared.Reading.the-variants as reading
+use Rattle.reader.proofs.Once.{both-one}
+use Rattle.registers.proofs.Once.{told-one as write-told-one}
 use Rattle.runs.specs.PackedList.{writes, PackableRun, packed}
 use Rattle.runs.specs.Shortest.{Says, Shortest}
 use Rattle.runs.proofs.Writes.{writes-length}
@@ -50,6 +53,7 @@ use Rattle.demands.specs.FragmentRefusals.{DecodeRefused, DrawRefused, t
 use Rattle.demands.specs.Refusals.{ReadRefused, WriteRefused, OneLength, PackRefused}
 use Rattle.demands.proofs.Calls.{WriteCall, ReadCall, PackCall, DecodeCall, DrawCall}
 use Rattle.demands.proofs.Calls.{write-call, read-call, pack-call, decode-call, draw-call}
+use Rattle.demands.proofs.Both.{both-given, neither-given}
 use Rattle.demands.proofs.FragmentRefusals.{decode-row, draw-row, done-only}
 use Rattle.demands.proofs.Reading.{refused-list, refused-write, read-tested, accepted, accepted-only, leaves}
 use Rattle.demands.proofs.Refusals.{write-row, read-row}
@@ -67,11 +71,13 @@ write-refuses {s} {t} {w} {why} c =
     let k = write-call c in
     (k .1 ∙ refused-write s w (why .number) (why .place) (sym (k .0)), write-row s w (why .number) (why .place) (sym (k .0)))
 
-pub read-refuses : {s t : State} {l : List ℕ} {why : Refusal} → ReadCall s l (list-verdict.Refused why) t
+pub read-refuses : {s t : State} {l : List ℕ} {why : Refusal} → ReadCall s l (reading.Refused why) t
     → (t ≡ s) × ReadRefused s l (why .number) (why .place)
+unfolding readAnswers
 read-refuses {s} {t} {l} {why} c =
     let k = read-call c in
-    (k .1 ∙ refused-list s l (why .number) (why .place) (sym (k .0)), read-row s l (why .number) (why .place) (sym (k .0)))
+    let e = neither-given (readAnswer s l) (why .number) (why .place) (differences s (expansion l)) (k .0) in
+    (k .1 ∙ refused-list s l (why .number) (why .place) e, read-row s l (why .number) (why .place) e)
 
 pub pack-refuses : {is ms vs old new : List ℕ} {why : Refusal} → PackCall is ms vs old (packer.Refused why) new
     → (new ≡ old) × PackRefused is ms vs (length old) (why .number) (why .place)
@@ -90,6 +96,9 @@ draw-refuses {s} {g} {incoming} {stored} {why} c = draw-row s incoming stored (w
 -- DEMAND 2: "A list is accepted exactly when it is well formed and each write is allowed; what it leaves is what its expansion leaves,
 -- one masked write after another."
 
+pub counts-one : (c d : Counts) → c .writes ≡ d .writes → c .differences ≡ d .differences → c ≡ d
+counts-one c d w n = rw (w, n)
+
 -- a list that can be read, and is to be accepted
 pub record Acceptable (s : State) (l : List ℕ) : Type 0 where
   pub lengths : sized s ≡ true
@@ -97,26 +106,42 @@ pub record Acceptable (s : State) (l : List ℕ) : Type 0 where
   pub form : wellFormed l ≡ true
   pub allowed : allAllowed (expansion l) ≡ true
 
-pub read-accepts-only : {s t : State} {l : List ℕ} {n : ℕ} → ReadCall s l (list-verdict.Accepted n) t
-    → Acceptable s l × (n ≡ length (expansion l)) × (t ≡ applyAll s (expansion l))
-read-accepts-only {s} {t} {l} {n} c =
-    let k = read-call c in
-    let e = sym (k .0) in
-    let z = read-tested s l n e in
-    let a = accepted-only s l (z .0) (z .1) n e in
-    (record { lengths = z .0; short = z .1; form = a .0; allowed = a .1 }, a .2, k .1 ∙ leaves s l (z .0) (z .1) n e)
+-- what reading then gives: the number of writes, and how many of them made a difference
+abbrev pub counted : State → List ℕ → Counts
+counted s l = record { writes = length (expansion l); differences = differences s (expansion l) }
 
-pub read-accepts : {s t : State} {l : List ℕ} {r : ListVerdict} → ReadCall s l r t → Acceptable s l
-    → (r ≡ list-verdict.Accepted (length (expansion l))) × (t ≡ applyAll s (expansion l))
+pub read-accepts-only : {s t : State} {l : List ℕ} {c : Counts} → ReadCall s l (reading.Accepted c) t
+    → Acceptable s l × (c ≡ counted s l) × (t ≡ applyAll s (expansion l))
+unfolding readAnswers
+read-accepts-only {s} {t} {l} {c} r =
+    let k = read-call r in
+    let g = both-given (readAnswer s l) (c .writes) (differences s (expansion l)) (c .differences) (k .0) in
+    let e = g .0 in
+    let z = read-tested s l (c .writes) e in
+    let a = accepted-only s l (z .0) (z .1) (c .writes) e in (
+      record { lengths = z .0; short = z .1; form = a .0; allowed = a .1 },
+      counts-one c (counted s l) (a .2) (g .1),
+      k .1 ∙ leaves s l (z .0) (z .1) (c .writes) e,
+    )
+
+pub read-accepts : {s t : State} {l : List ℕ} {r : Reading} → ReadCall s l r t → Acceptable s l
+    → (r ≡ reading.Accepted (counted s l)) × (t ≡ applyAll s (expansion l))
+unfolding readAnswers
 read-accepts {s} {t} {l} {r} c a =
     let k = read-call c in
-    let e = accepted s l (a .lengths) (a .short) (a .form) (a .allowed) in
-    (told-one r (list-verdict.Accepted (length (expansion l))) (k .0 ∙ e), k .1 ∙ leaves s l (a .lengths) (a .short) _ e)
+    let e = accepted s l (a .lengths) (a .short) (a .form) (a .allowed) in (
+      both-one r (reading.Accepted (counted s l)) (k .0 ∙ rw e),
+      k .1 ∙ leaves s l (a .lengths) (a .short) _ e,
+    )
 
--- a single write that is done is allowed, and leaves what the write leaves
-by-number : (n : ℕ) (s t u : State) → answered 0 ≡ atZero n → u ≡ unless n t s → (n ≡ 0) × (u ≡ t)
-by-number zero s t u e f = (refl, f)
-by-number (suc n) s t u e f = absurd (told-apart e)
+-- a single write that is done is allowed, leaves what the write leaves, and tells whether it made a difference
+done-one : (a b : Bool) → answered (pick a 1 0) ≡ answered (pick b 1 0) → a ≡ b
+done-one a b e = let z = write-told-one (written.Done a) (written.Done b) e in cc
+
+by-number : (n d : ℕ) (s t u : State) (b : Bool) → answered (pick b 1 0) ≡ unlessFault n 0 (answered d) → u ≡ unless n t s
+    → (n ≡ 0) × (pick b 1 0 ≡ d) × (u ≡ t)
+by-number zero d s t u b e f = let z : pick b 1 0 ≡ d = cc in (refl, z, f)
+by-number (suc n) d s t u b e f = absurd (told-apart e)
 
 by-mask : (s : State) (w : Write) (a b : Bool) → sized s ≡ a → ltb 15 (w .mask) ≡ b → pick a (pick b 9 (faultOf (w .id) (w .mask))) 6 ≡ 0
     → (sized s ≡ true) × (w .mask ≤ 15) × (allowed (w .id) (w .mask) ≡ true)
@@ -129,13 +154,14 @@ not-refused : (s : State) (w : Write) → refusalOf s w ≡ 0 → (sized s ≡ t
 unfolding refusalOf
 not-refused s w e = by-mask s w (sized s) (ltb 15 (w .mask)) refl refl e
 
-pub write-leaves : {s t : State} {w : Write} → WriteCall s w written.Done t
+pub write-leaves : {s t : State} {w : Write} {d : Bool} → WriteCall s w (written.Done d) t
     → (sized s ≡ true) × (w .mask ≤ 15) × (allowed (w .id) (w .mask) ≡ true) × (t ≡ apply s w)
-write-leaves {s} {t} {w} c =
+    × (d ≡ differs s (w .id) (spread (w .mask)) (w .value))
+write-leaves {s} {t} {w} {d} c =
     let k = write-call c in
-    let r = by-number (refusalOf s w) s (apply s w) t (k .0) (k .1) in
+    let r = by-number (refusalOf s w) (difference s w) s (apply s w) t d (k .0) (k .1) in
     let a = not-refused s w (r .0) in
-    (a .0, a .1, a .2, r .1)
+    (a .0, a .1, a .2, r .2, done-one d (differs s (w .id) (spread (w .mask)) (w .value)) (ap answered (r .1)))
 
 -- where words are answered, the run can be packed, and its list stands in the space
 pub packed-put : {is ms vs old new : List ℕ} {n : ℕ} → PackCall is ms vs old (packer.Words n) new
@@ -148,15 +174,20 @@ packed-put {is} {ms} {vs} {old} {new} {n} p =
     (G, ap (take n) (k .1 ∙ fits .1) ∙ take-at (packed (writes is ms vs)) _ n (sym (a .1)))
 
 -- "A packed list reads back as the writes that were given": what `pack` put into the space, read by `read` into any state
-pub pack-then-read : {is ms vs old new : List ℕ} {n : ℕ} {s t : State} {r : ListVerdict} → PackCall is ms vs old (packer.Words n) new
-    → ReadCall s (take n new) r t → sized s ≡ true → (r ≡ list-verdict.Accepted (length is)) × (t ≡ applyAll s (writes is ms vs))
+pub pack-then-read : {is ms vs old new : List ℕ} {n : ℕ} {s t : State} {r : Reading} → PackCall is ms vs old (packer.Words n) new
+    → ReadCall s (take n new) r t → sized s ≡ true
+    → (r ≡ reading.Accepted (record { writes = length is; differences = differences s (writes is ms vs) }))
+    × (t ≡ applyAll s (writes is ms vs))
+unfolding readAnswers
 pack-then-read {is} {ms} {vs} {old} {new} {n} {s} {t} {r} p c z =
     let G = packed-put p .0 in
     let put = packed-put p .1 in
     let back = reads-back is ms vs (G .masks, G .values) (G .few) (given-said is ms vs G) s z in
     let q = read-call c in
-    let e = q .0 ∙ ap (readAnswer s) put ∙ back .0 ∙ ap answered (writes-length is ms vs (G .masks) (G .values)) in
-    (told-one r (list-verdict.Accepted (length is)) e, q .1 ∙ ap (readState s) put ∙ back .2)
+    let long = writes-length is ms vs (G .masks) (G .values) in
+    let e : readAnswers s (take n new) ≡ toldBoth (reading.Accepted (record { writes = length is; differences = differences s (writes is ms vs) })) =
+    rw (put, back .0, back .1, long) in
+    (both-one r _ (q .0 ∙ e), q .1 ∙ ap (readState s) put ∙ back .2)
 
 held-settings : (s : State) (x : Settings) (t : Bool) → decodable s ≡ t → decodedOf s ≡ decoded.Held x
     → (decodable s ≡ true) × (x ≡ settingsOf s)

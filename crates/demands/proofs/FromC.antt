@@ -15,10 +15,12 @@ use Rattle.numbers.proofs.Answers.{told-apart, number-one}
 use Rattle.words.specs.Writes.{Write}
 use Rattle.words.specs.declared.Refusal.{Refusal}
 use Rattle.registers.specs.State.{State, sized}
+use Rattle.registers.specs.Applied.{differences}
+use Rattle.words.specs.Commands.{expansion}
 use Rattle.registers.specs.Single.{writeAnswer}
-use Rattle.reader.specs.Read.{readAnswer}
-use Rattle.parts.specs.Progress.{fresh, after, counted, between, faultNumber, closing}
-use Rattle.pieces.specs.Pieces.{wrongLength, bothSized, opening, feeding, closeAnswer}
+use Rattle.reader.specs.Read.{readAnswer, readAnswers}
+use Rattle.parts.specs.Progress.{fresh, between, faultNumber, closing}
+use Rattle.pieces.specs.Pieces.{wrongLength, bothSized, opening, fed, feeding, closeAnswer, closeAnswers}
 use Rattle.pieces.specs.Pieces as pieces
 use Rattle.parts.specs.declared.Progress.{Progress}
 use Rattle.pieces.specs.declared.Going.the-variants.{Come}
@@ -30,11 +32,12 @@ use Rattle.decode.specs.declared.Decoded.the-variants as decoded
 use Rattle.stores.specs.Tests.{verdictNumber}
 use Rattle.fragment.specs.declared.Drawn.{Drawn}
 use Rattle.fragment.specs.declared.Drawn.the-variants as drawn
-use Rattle.pica.specs.Calls.{call, answer, decodeCall, givenOf, storedOf, fragmentOf, fragmentCall}
+use Rattle.pica.specs.Calls.{call, answer, answers, decodeCall, givenOf, storedOf, fragmentOf, fragmentCall}
 use Rattle.pica.proofs.Uncut.{valueIn, read-uncut, feed-uncut, close-uncut, write-uncut, writes-uncut, pack-uncut}
 use Rattle.pica.proofs.Uncut.{placeOf, decode-uncut, drawnValue, fragment-uncut}
 use Rattle.demands.specs.Refusals.{In, CommandRefused, ReadRefused, WriteRefused, WritesRefused, PackRefused}
 use Rattle.demands.specs.FragmentRefusals.{DecodeRefused, DrawRefused}
+use Rattle.demands.proofs.Both.{answers-besides}
 use Rattle.demands.proofs.Refusals.{fault-numbered, read-row, write-row}
 use Rattle.demands.proofs.RunRefusals.{pack-row}
 use Rattle.demands.proofs.Listed.{writes-row}
@@ -91,8 +94,11 @@ writes-numbered l is ms vs n p (inr (inr (inl r))) z = command-numbered l n p (r
 writes-numbered l is ms vs n p (inr (inr (inr r))) z = omega (arith, r .0)
 
 -- WHAT IS TAKEN OUT of the numbers that the promises of `pica_read`, `pica_write`, `pica_writes` and `pica_pack` give
-pub read-taken : (s : State) (l : List ℕ) → asTaken (answer (readAnswer s l)) ≡ readAnswer s l
-read-taken s l = taken (readAnswer s l) (omega (arith, read-uncut s l)) (λ n p e. read-numbered s l n p (read-row s l n p e))
+pub read-taken : (s : State) (l : List ℕ) → asTaken (answers (readAnswers s l)) ≡ readAnswer s l
+unfolding readAnswers
+read-taken s l =
+    ap asTaken (answers-besides (readAnswer s l) (differences s (expansion l)))
+    ∙ taken (readAnswer s l) (omega (arith, read-uncut s l)) (λ n p e. read-numbered s l n p (read-row s l n p e))
 
 pub write-taken : (s : State) (w : Write) → asTaken (answer (writeAnswer s w)) ≡ writeAnswer s w
 write-taken s w = taken (writeAnswer s w) (omega (arith, write-uncut s w)) (λ n p e. write-numbered s w n p (write-row s w n p e))
@@ -123,7 +129,7 @@ feed-numbered : (p : Progress) (spare : State) (l : List ℕ) → Numbered (piec
 unfolding feeding
 feed-numbered p spare l = go (sized spare)
   where
-    go : (b : Bool) → Numbered (pieces.told (pick b (Come (counted (after p l))) wrongLength))
+    go : (b : Bool) → Numbered (pieces.told (pick b (Come (fed p spare l)) wrongLength))
     go true = λ n q e z. told-apart e
     go false = above-zero 6 0 (omega arith)
 
@@ -151,8 +157,11 @@ close-numbered p live spare =
     go false b c d f g = above-zero 6 0 (omega arith)
 
 pub close-taken : (p : Progress) (live spare : State) → p .place < 0x100000000 → p .writes < 0x100000000
-    → asTaken (answer (closeAnswer p live spare)) ≡ closeAnswer p live spare
-close-taken p live spare h g = taken (closeAnswer p live spare) (close-uncut p live spare h g) (close-numbered p live spare)
+    → asTaken (answers (closeAnswers p live spare)) ≡ closeAnswer p live spare
+unfolding closeAnswers
+close-taken p live spare h g =
+    ap asTaken (answers-besides (closeAnswer p live spare) (p .differences))
+    ∙ taken (closeAnswer p live spare) (close-uncut p live spare h g) (close-numbered p live spare)
 
 -- of those that the promises of `pica_decode` and `pica_fragment` give
 abbrev pub decodeAnswer : Decoded → Answer

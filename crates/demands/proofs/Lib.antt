@@ -15,6 +15,9 @@ pub mod Seams
 pub mod Examples
 pub mod Drawing
 pub mod Calls
+pub mod Both
+pub mod Differ
+pub mod Tallies
 pub mod Pieces
 pub mod EachCall
 pub mod EndToEnd
@@ -22,3 +25,4 @@ pub mod Accepts
 pub mod Between
 pub mod FromC
 pub mod PiecesFromC
+pub mod Differences

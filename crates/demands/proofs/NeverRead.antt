@@ -131,7 +131,7 @@ module _ (s t : State) (a : Alike s t) where
         lightLong = a .lightLong;
       }
 
-  write-alike : (w : Write) → Alike (apply s w) (apply t w)
+  pub write-alike : (w : Write) → Alike (apply s w) (apply t w)
   unfolding put
   write-alike w = go (fogData (w .id)) (lightData (w .id))
     where

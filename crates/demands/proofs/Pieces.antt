@@ -1,5 +1,6 @@
--- Request 1, lists that arrive in pieces, from the contracts of open, feed and close. Assumes nothing; of a state it is asked, where said,
--- that its cells are 32-bit words, as those of a lent buffer are: in a list of numbers larger ones could stand.
+-- Request 1, lists that arrive in pieces, from the contracts of open, feed and close, with request 2's count of differences. Assumes
+-- nothing; of a state it is asked, where said, that its cells are 32-bit words, as those of a lent buffer are: in a list of numbers larger
+-- ones could stand.
 use mathlib.Core.Path.{_≡_, refl, sym, ap, _∙_}
 use mathlib.Core.Bool.{Bool, true, false}
 use mathlib.Core.List.{List, [], _∷_, _++_}
@@ -8,31 +9,39 @@ use native.Mathlib.Decide.{decLt}
 use native.Mathlib.Omega.{arith}
 use lib.ListN.{length}
 use borrow.Author.Tests.{le-leb, lt-leb, lt-ltb}
-use Rattle.numbers.specs.Answer.{Answer, answered, refused}
+use Rattle.numbers.specs.Answer.{Answer, answered, refused, Answers, neither, besides}
 use Rattle.numbers.proofs.Tests.{and-true}
 use Rattle.words.specs.Commands.{expansion}
 use Rattle.registers.specs.State.{State, sized}
-use Rattle.registers.specs.Applied.{applyAll}
+use Rattle.registers.specs.Applied.{applyAll, differences}
+use Rattle.registers.proofs.Differences.{differences-none, differences-append, differences-most}
 use Rattle.copies.specs.Copy.{taken}
 use Rattle.commands.proofs.Applying.{apply-none, apply-append}
 use Rattle.reader.specs.ListVerdict.{verdict}
-use Rattle.reader.specs.Read.{told as read-told, readAnswer, readState}
-use Rattle.reader.specs.declared.ListVerdict.{ListVerdict}
-use Rattle.reader.proofs.Once.{told-one}
-use Rattle.parts.specs.Progress.{fresh, after, made, heldAt, counted, closing}
-use Rattle.pieces.specs.Pieces.{wrongLength, bothSized, opening, openedSpare, feeding}
-use Rattle.pieces.specs.Pieces.{fedSpare, closeAnswer, closeProgress, closedLive, closedSpare}
+use Rattle.reader.specs.Read.{toldBoth, readAnswer, readAnswers, readState}
+use Rattle.reader.specs.declared.Reading.{Reading}
+use Rattle.reader.proofs.Accepted.{verdict-accepted}
+use Rattle.reader.proofs.Once.{both-one}
+use Rattle.parts.specs.Progress.{fresh, plus, after, made, heldAt, counted, tallied, closing}
+use Rattle.pieces.specs.Pieces.{wrongLength, bothSized, opening, openedSpare, fed, feeding}
+use Rattle.pieces.specs.Pieces.{fedSpare, closeAnswer, closeAnswers, closeProgress, closedLive, closedSpare}
 use Rattle.parts.specs.declared.Progress.{Progress}
 use Rattle.pieces.specs.declared.Going.the-variants.{Come}
 use Rattle.pieces.specs.declared.Closed.{Closed}
-use Rattle.pieces.proofs.Steps.{after-none, after-append, made-none, made-append}
-use Rattle.pieces.proofs.Closing.{closes-long, whole-list}
-use Rattle.pieces.proofs.Counts.{held-twice, come-held, counted-same}
+use Rattle.parts.proofs.Steps.{after-none, after-append, made-none, made-append}
+use Rattle.parts.proofs.Closing.{closes-long}
+use Rattle.parts.proofs.Counts.{held-twice, come-held, counted-same}
+use Rattle.pieces.proofs.Whole.{whole-list}
 use Rattle.pieces.proofs.Calls.{open-wrong, open-right, feed-wrong, feed-right, close-refused, close-accepted}
+use Rattle.pica.proofs.Uncut.{verdict-uncut}
+use Rattle.demands.specs.Both.{alone}
+use Rattle.demands.proofs.Both.{alone-besides, neither-given}
 use Rattle.demands.proofs.Alike.{Alike}
 use Rattle.demands.proofs.NeverRead.{never-read}
 use Rattle.demands.proofs.Taken.{sized-kept, Words, run-words, taken-alike, taken-sized, taken-words, taken-done}
 use Rattle.demands.proofs.Beside.{beside-run, taken-same}
+use Rattle.demands.proofs.Differ.{differences-alike}
+use Rattle.demands.proofs.Tallies.{after-tallied, made-tallied, closing-tallied}
 use Rattle.demands.proofs.Calls.{ReadCall, read-call, OpenCall, open-call, FeedCall, feed-call, CloseCall, close-call}
 
 -- THE LIST THAT PARTS ARE CUT FROM, at any places, parts of zero words among them
@@ -93,39 +102,63 @@ open-opens {live} {spare} {s} {p} c = go (bothSized live spare) refl (open-call 
 
 -- FEEDING, of which the answer is no refusal
 pub fed-call : {p q : Progress} {s t : State} {l : List ℕ} → FeedCall p s l (Come q) t
-    → (sized s ≡ true) × (q ≡ counted (after p l)) × (t ≡ applyAll s (made p l))
+    → (sized s ≡ true) × (q ≡ fed p s l) × (t ≡ applyAll s (made p l))
 fed-call {p} {q} {s} {t} {l} c = go (sized s) refl (feed-call c)
   where
     go : (b : Bool) → sized s ≡ b → (Come q ≡ feeding p s l) × (t ≡ fedSpare p s l)
-        → (sized s ≡ true) × (q ≡ counted (after p l)) × (t ≡ applyAll s (made p l))
-    go true e k =
-        let r = feed-right p s l e in (e, come-one q (counted (after p l)) (k .0 ∙ sym (r .0)), k .1 ∙ sym (r .1))
+        → (sized s ≡ true) × (q ≡ fed p s l) × (t ≡ applyAll s (made p l))
+    go true e k = let r = feed-right p s l e in (e, come-one q (fed p s l) (k .0 ∙ sym (r .0)), k .1 ∙ sym (r .1))
     go false e k = come-no-refusal q (k .0 ∙ sym (feed-wrong p s l e .0))
 
 held-after : (p : Progress) (l : List ℕ) → p .come ≡ heldAt (p .come) → after p l .come ≡ heldAt (after p l .come)
 held-after p l h = rw (come-held p l h) (held-twice (p .come + length l) (decLt 65536 (p .come + length l)))
 
+-- the progress after words, with their writes counted
+abbrev pub onFrom : Progress → State → List ℕ → Progress
+onFrom p s l = tallied (after p l) (plus (p .differences) (differences s (made p l)))
+
+plus-none : (d : ℕ) → d < 0x100000000 → d ≡ plus d 0
+plus-none d h = omega arith
+
+plus-plus : (d a b : ℕ) → plus (plus d a) b ≡ plus d (a + b)
+plus-plus d a b = omega arith
+
 -- parts are fed as the joined list would be at once: what the spare state holds in between doesn't go by the cutting either
 module _ {M : Type 0} (call : M → State → List ℕ → M → State → Type 0) (view : M → Progress)
     (does : (m n : M) (s t : State) (l : List ℕ) → sized s ≡ true → call m s l n t
-    → (view n ≡ counted (after (view m) l)) × (t ≡ applyAll s (made (view m) l))) where
+    → (view n ≡ fed (view m) s l) × (t ≡ applyAll s (made (view m) l))) where
   pub joined-by : (ls : List (List ℕ)) (m n : M) (s t : State) → sized s ≡ true → FeedsBy call m s ls n t
-      → view m .come ≡ heldAt (view m .come)
-      → (view n ≡ after (view m) (joined ls)) × (t ≡ applyAll s (made (view m) (joined ls)))
+      → view m .come ≡ heldAt (view m .come) → view m .differences < 0x100000000
+      → (view n ≡ onFrom (view m) s (joined ls)) × (t ≡ applyAll s (made (view m) (joined ls)))
   unfolding joined
-  joined-by [] m n s t z f h =
-      (ap view (f .0) ∙ sym (after-none (view m)), f .1 ∙ sym (rw (made-none (view m)) (apply-none s)))
-  joined-by (l ∷ ls) m n s t z f h =
+  joined-by [] m n s t z f h d =
+      let p = view m in (
+        ap view (f .0) ∙ rw (after-none p, made-none p, differences-none s, ← plus-none (p .differences) d),
+        f .1 ∙ sym (rw (made-none p) (apply-none s)),
+      )
+  joined-by (l ∷ ls) m n s t z f h d =
       let p = view m in
       let c = does m (f .reader) s (f .spare) l z (f .fed) in
-      let e : view (f .reader) ≡ after p l = c .0 ∙ counted-same (after p l) (held-after p l h) in
-      let r = joined-by ls (f .reader) n (f .spare) t (rw (c .1) (sized-kept s (made p l) ∙ z)) (f .on) (rw e (held-after p l h)) in (
-        r .0 ∙ rw e (sym (after-append p l (joined ls))),
-        r .1 ∙ rw (c .1, e, made-append p l (joined ls)) (sym (apply-append s (made p l) (made (after p l) (joined ls)))),
+      let D = plus (p .differences) (differences s (made p l)) in
+      let k = counted-same (after p l) (held-after p l h) in
+      let e : view (f .reader) ≡ tallied (after p l) D = c .0 ∙ ap (λ (q : Progress). tallied q D) k in
+      let i = joined ls in
+      let u = applyAll s (made p l) in
+      let r = joined-by ls (f .reader) n (f .spare) t (rw (c .1) (sized-kept s (made p l) ∙ z)) (f .on)
+      (rw e (held-after p l h)) (rw e (omega arith)) in
+      let a : after (view (f .reader)) i ≡ tallied (after p (l ++ i)) D =
+      rw e (after-tallied (after p l) D i ∙ ap (λ (q : Progress). tallied q D) (sym (after-append p l i))) in
+      let b : made (view (f .reader)) i ≡ made (after p l) i = rw e (made-tallied (after p l) D i) in
+      let g : view (f .reader) .differences ≡ D = rw e in
+      let x : differences s (made p (l ++ i)) ≡ differences s (made p l) + differences u (made (after p l) i) =
+      rw (made-append p l i) (differences-append s (made p l) (made (after p l) i)) in (
+        r .0 ∙ rw (a, b, g, c .1, x, plus-plus (p .differences) (differences s (made p l)) (differences u (made (after p l) i))),
+        r .1 ∙ rw (c .1, b, made-append p l i) (sym (apply-append s (made p l) (made (after p l) i))),
       )
 
 pub feeds-joined : (ls : List (List ℕ)) (p q : Progress) (s t : State) → sized s ≡ true → Feeds p s ls q t → p .come ≡ heldAt (p .come)
-    → (q ≡ after p (joined ls)) × (t ≡ applyAll s (made p (joined ls)))
+    → p .differences < 0x100000000
+    → (q ≡ onFrom p s (joined ls)) × (t ≡ applyAll s (made p (joined ls)))
 feeds-joined =
     joined-by (λ p s l q t. FeedCall p s l (Come q) t) (λ p. p) (λ m n s t l z c. let k = fed-call c in (k .1, k .2))
 
@@ -141,8 +174,9 @@ alike-back a =
     }
 
 -- where both have their lengths, a close answers by the words alone
-pub right-answer : (live spare : State) (p : Progress) → bothSized live spare ≡ true → closeAnswer p live spare ≡ closing p
-unfolding closeAnswer
+pub right-answer : (live spare : State) (p : Progress) → bothSized live spare ≡ true
+    → closeAnswers p live spare ≡ besides (closing p) (p .differences)
+unfolding closeAnswer closeAnswers
 right-answer live spare p e = rw e
 
 -- "Feeding answers only how many words have come, held at 65,537": `told` of its answer is this number alone
@@ -150,70 +184,91 @@ pub words-come : {live s : State} {p : Progress} (ls : List (List ℕ)) (q : Pro
     → q .come ≡ heldAt (length (joined ls))
 words-come {live} {s} {p} ls q t o f =
     let e = o .progress in
-    let r = feeds-joined ls p q s t (o .spare-sized) f (rw e) in
+    let r = feeds-joined ls p q s t (o .spare-sized) f (rw e) (rw e (omega arith)) in
     let n : 0 + length (joined ls) ≡ length (joined ls) = omega arith in
     rw (r .0, e) (come-held fresh (joined ls) refl ∙ rw n)
 
 -- "If nobody else writes to either state from opening to close, then for every cutting the verdict, the place counted from the list's start
 -- and the live state are those of reading the joined list at once. The 65,536 limit is on the joined length."; and the reader is then as
--- freshly opened, so that the next list may come without another opening
-pub record InPieces (live : State) (l : List ℕ) (a : Answer) (q : Progress) (live′ spare′ : State) : Type 0 where
-  pub answer : a ≡ readAnswer live l
+-- freshly opened, so that the next list may come without another opening. The differences are those of reading at once too
+pub record InPieces (live s : State) (l : List ℕ) (a : Answers) (q : Progress) (live′ spare′ : State) : Type 0 where
+  pub answer : alone a ≡ readAnswer live l
+  pub answers : Words live → Words s → a ≡ readAnswers live l
   pub state : Words live → live′ ≡ readState live l
   pub opened : Opened live′ q spare′
   pub words : Words live → Words live′
+  pub spare-words : Words s → Words spare′
 
 module _ (live s : State) (l : List ℕ) (a : sized live ≡ true) (b : sized s ≡ true) (k : Alike s live) where
-  abbrev fed : State
-  fed = applyAll s (made fresh l)
+  abbrev left : State
+  left = applyAll s (made fresh l)
 
-  fed-sized : sized fed ≡ true
-  fed-sized = sized-kept s (made fresh l) ∙ b
+  left-sized : sized left ≡ true
+  left-sized = sized-kept s (made fresh l) ∙ b
 
-  fed-both : bothSized live fed ≡ true
-  fed-both = rw (a, fed-sized)
+  left-both : bothSized live left ≡ true
+  left-both = rw (a, left-sized)
 
-  abbrev pub Closes : Answer → Progress → State → State → Type 0
+  -- the progress that the parts lead to
+  abbrev reached : Progress
+  reached = onFrom fresh s l
+
+  abbrev pub Closes : Answers → Progress → State → State → Type 0
   Closes v q live′ spare′ =
-      (v ≡ closeAnswer (after fresh l) live fed) × (q ≡ closeProgress (after fresh l) live fed)
-      × (live′ ≡ closedLive (after fresh l) live fed) × (spare′ ≡ closedSpare (after fresh l) live fed)
+      (v ≡ closeAnswers reached live left) × (q ≡ closeProgress reached live left)
+      × (live′ ≡ closedLive reached live left) × (spare′ ≡ closedSpare reached live left)
+
+  -- no sum wraps, since a list has no more writes than words
+  all-counted : length l ≤ 65536 → (m : ℕ) → verdict l ≡ answered m → Words live → Words s
+      → plus 0 (differences s (expansion l)) ≡ differences live (expansion l)
+  all-counted h m e u v =
+      let d = differences-alike s live k v u b a (expansion l) in
+      let few = rw e at (verdict-uncut l) in
+      omega (arith, d, differences-most s (expansion l), verdict-accepted l m e .2, few, h)
 
   -- for a verdict v at the close, of which the writes made are the expansion where it accepts
   by-verdict : (v : Answer) → closing (after fresh l) ≡ v → readAnswer live l ≡ v → ((m : ℕ) → v ≡ answered m → made fresh l ≡ expansion l)
-      → (u : Answer) (q : Progress) (live′ spare′ : State) → Closes u q live′ spare′ → InPieces live l u q live′ spare′
-  unfolding readState
-  by-verdict (answered m) e r x u y live′ spare′ h =
-      let g = close-accepted live fed (after fresh l) m fed-both (sym e) in
-      let n = never-read s live k (made fresh l) in
-      let i : live′ ≡ taken live fed = h .2 ∙ sym (g .2) in
+      → ((m : ℕ) → v ≡ answered m → Words live → Words s → plus 0 (differences s (expansion l)) ≡ differences live (expansion l))
+      → (u : Answers) (q : Progress) (live′ spare′ : State) → Closes u q live′ spare′ → InPieces live s l u q live′ spare′
+  unfolding readState readAnswers
+  by-verdict (answered m) e r x n u y live′ spare′ h =
+      let g = close-accepted live left reached m left-both (sym (closing-tallied (after fresh l) _ ∙ e)) in
+      let never = never-read s live k (made fresh l) in
+      let i : live′ ≡ taken live left = h .2 ∙ sym (g .2) in
+      let told = h .0 ∙ sym (g .0) in
       record {
-        answer = h .0 ∙ sym (g .0) ∙ sym r;
-        state = λ w. rw (r, ← (x m refl)) (i ∙ taken-done live fed (made fresh l) a fed-sized w n);
+        answer = ap alone told ∙ sym r;
+        answers = λ c d. told ∙ rw (r, x m refl, n m refl c d);
+        state = λ w. rw (r, ← (x m refl)) (i ∙ taken-done live left (made fresh l) a left-sized w never);
         opened =
             rw (i, h .3 ∙ sym (g .3))
             (record {
               progress = h .1 ∙ sym (g .1);
-              live-sized = taken-sized live fed a fed-sized;
-              spare-sized = fed-sized;
-              alike = alike-back (taken-alike live fed a fed-sized);
+              live-sized = taken-sized live left a left-sized;
+              spare-sized = left-sized;
+              alike = alike-back (taken-alike live left a left-sized);
             });
-        words = λ w. rw i (taken-words live fed a w);
+        words = λ w. rw i (taken-words live left a w);
+        spare-words = λ w. rw (h .3 ∙ sym (g .3)) (run-words s (made fresh l) w);
       }
-  by-verdict (refused n q) e r x u y live′ spare′ h =
-      let g = close-refused live fed (after fresh l) n q fed-both (sym e) in
+  by-verdict (refused n q) e r x c u y live′ spare′ h =
+      let g = close-refused live left reached n q left-both (sym (closing-tallied (after fresh l) _ ∙ e)) in
       let i : live′ ≡ live = h .2 ∙ sym (g .2) in
+      let told = h .0 ∙ sym (g .0) in
       record {
-        answer = h .0 ∙ sym (g .0) ∙ sym r;
+        answer = ap alone told ∙ sym r;
+        answers = λ c d. told ∙ rw r;
         state = λ w. rw r i;
         opened =
             rw (i, h .3 ∙ sym (g .3))
             (record {
               progress = h .1 ∙ sym (g .1);
               live-sized = a;
-              spare-sized = taken-sized fed live fed-sized a;
-              alike = taken-alike fed live fed-sized a;
+              spare-sized = taken-sized left live left-sized a;
+              alike = taken-alike left live left-sized a;
             });
         words = λ w. rw i w;
+        spare-words = λ w. rw (h .3 ∙ sym (g .3)) (taken-words left live left-sized (run-words s (made fresh l) w));
       }
 
   short-answer : length l ≤ 65536 → readAnswer live l ≡ verdict l
@@ -224,49 +279,51 @@ module _ (live s : State) (l : List ℕ) (a : sized live ≡ true) (b : sized s 
   unfolding readAnswer
   long-answer h = rw (a, lt-leb (length l) 65536 h)
 
-  pub by-length : Dec (65536 < length l) → (u : Answer) (q : Progress) (live′ spare′ : State) → Closes u q live′ spare′
-      → InPieces live l u q live′ spare′
+  pub by-length : Dec (65536 < length l) → (u : Answers) (q : Progress) (live′ spare′ : State) → Closes u q live′ spare′
+      → InPieces live s l u q live′ spare′
   by-length (yes h) =
       let n : 0 + length l ≡ length l = omega arith in
       let e : after fresh l .come ≡ 65537 = come-held fresh l refl ∙ rw (n, lt-ltb 65536 (length l) h) in
       by-verdict (refused 1 0) (closes-long (after fresh l) (omega (arith, e))) (long-answer h)
       (λ m z. absurd (let y : _≡_ {A = ℕ} 0 1 = cc in omega arith))
+      (λ m z. absurd (let y : _≡_ {A = ℕ} 0 1 = cc in omega arith))
   by-length (no h) =
       let r = whole-list l (omega arith) in
-      by-verdict (verdict l) (r .answer) (short-answer (omega arith)) (r .writes)
+      by-verdict (verdict l) (r .answer) (short-answer (omega arith)) (r .writes) (all-counted (omega arith))
 
 module _ {live s t live′ spare′ : State} {p q : Progress} {c : Closed} (ls : List (List ℕ)) (o : Opened live p s)
     (f : Feeds p s ls q t) (k : CloseCall q live t c live′ spare′) where
-  closes : Closes live s (joined ls) (o .live-sized) (o .spare-sized) (o .alike) (read-told (c .verdict)) (c .progress) live′ spare′
+  closes : Closes live s (joined ls) (o .live-sized) (o .spare-sized) (o .alike) (toldBoth (c .verdict)) (c .progress) live′ spare′
   closes =
-      let e = feeds-joined ls p q s t (o .spare-sized) f (rw (o .progress)) in
+      let e = feeds-joined ls p q s t (o .spare-sized) f (rw (o .progress)) (rw (o .progress) (omega arith)) in
       let x = close-call k in
       rw (e .0, e .1, o .progress) at x
 
-  pub in-pieces : InPieces live (joined ls) (read-told (c .verdict)) (c .progress) live′ spare′
+  pub in-pieces : InPieces live s (joined ls) (toldBoth (c .verdict)) (c .progress) live′ spare′
   in-pieces =
       by-length live s (joined ls) (o .live-sized) (o .spare-sized) (o .alike) (decLt 65536 (length (joined ls)))
-      (read-told (c .verdict)) (c .progress) live′ spare′ closes
+      (toldBoth (c .verdict)) (c .progress) live′ spare′ closes
 
-  -- against a call of `read` on the live state and the joined list
-  pub as-read : {r : ListVerdict} {u : State} → Words live → ReadCall live (joined ls) r u → (c .verdict ≡ r) × (live′ ≡ u)
-  as-read {r} {u} w x =
+  -- against a call of `read` on the live state and the joined list: the same verdict, writes, differences and live state
+  pub as-read : {r : Reading} {u : State} → Words live → Words s → ReadCall live (joined ls) r u → (c .verdict ≡ r) × (live′ ≡ u)
+  as-read {r} {u} w v x =
       let y = read-call x in
-      (told-one (c .verdict) r (in-pieces .answer ∙ sym (y .0)), in-pieces .state w ∙ sym (y .1))
+      (both-one (c .verdict) r (in-pieces .answers w v ∙ sym (y .0)), in-pieces .state w ∙ sym (y .1))
 
   -- "on any other refusal the spare those of the live .., and the reader is as freshly opened": both states and the reader are, word for
   -- word, those after opening
-  pub refused-as-opened : (n x : ℕ) → Words s → read-told (c .verdict) ≡ refused n x → (live′ ≡ live) × (spare′ ≡ s) × (c .progress ≡ p)
+  pub refused-as-opened : (n x : ℕ) → Words s → toldBoth (c .verdict) ≡ neither n x → (live′ ≡ live) × (spare′ ≡ s) × (c .progress ≡ p)
   unfolding readState
   refused-as-opened n x v e =
       let i = in-pieces in
       let d = closes in
       let ws = made fresh (joined ls) in
       let b = o .spare-sized in
-      let h = fed-both live s (joined ls) (o .live-sized) b (o .alike) in
-      let z : closeAnswer (after fresh (joined ls)) live (applyAll s ws) ≡ refused n x = sym (d .0) ∙ e in
-      let y : refused n x ≡ closing (after fresh (joined ls)) = sym z ∙ right-answer live (applyAll s ws) (after fresh (joined ls)) h in
-      let g = close-refused live (applyAll s ws) (after fresh (joined ls)) n x h y in
+      let r = reached live s (joined ls) (o .live-sized) b (o .alike) in
+      let h = left-both live s (joined ls) (o .live-sized) b (o .alike) in
+      let z : neither n x ≡ closeAnswers r live (applyAll s ws) = sym e ∙ d .0 in
+      let y : closing r ≡ refused n x = neither-given (closing r) n x (r .differences) (z ∙ right-answer live (applyAll s ws) r h) in
+      let g = close-refused live (applyAll s ws) r n x h (sym y) in
       let kept : taken (applyAll s ws) live ≡ taken s live =
       taken-same (applyAll s ws) s live (sized-kept s ws ∙ b) b (run-words s ws v) v (beside-run s ws) in
       let back : taken s live ≡ s =

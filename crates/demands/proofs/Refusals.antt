@@ -10,7 +10,7 @@ use lib.Dec.{eqb, leb, ltb}
 use lib.ListN.{length}
 use borrow.Author.Tests.{leb-true, leb-false, ltb-true, ltb-false}
 use Rattle.numbers.specs.Pick.{pick}
-use Rattle.numbers.specs.Answer.{Answer, refused, unlessFault}
+use Rattle.numbers.specs.Answer.{Answer, refused, unlessFault, answered}
 use Rattle.numbers.proofs.Answers.{told-apart, number-one, place-one}
 use Rattle.numbers.proofs.Picks.{pick-either}
 use Rattle.words.specs.Writes.{Write, jumps, portData, faultOf}
@@ -19,7 +19,8 @@ use Rattle.words.specs.Taken.{partsOf, headOf}
 use Rattle.words.specs.declared.Refusal.{Refusal}
 use Rattle.words.specs.declared.Head.the-variants as head
 use Rattle.registers.specs.State.{State, sized}
-use Rattle.registers.specs.Single.{refusalOf, atZero, writeAnswer}
+use Rattle.registers.specs.Applied.{difference}
+use Rattle.registers.specs.Single.{refusalOf, writeAnswer}
 use Rattle.reader.specs.ListVerdict.{firstFault, commandFault, judge, verdict}
 use Rattle.reader.specs.Read.{readAnswer}
 use Rattle.reader.proofs.Accepted.{judge-none, judge-more}
@@ -114,9 +115,9 @@ read-row s l n p e = by-length s l n p (sized s) (leb (length l) 65536) refl ref
 
 -- A SINGLE WRITE
 
-by-zero : (f n p : ℕ) → atZero f ≡ refused n p → (f ≡ n) × (p ≡ 0) × (n ≡ 0 → ⊥)
-by-zero zero n p e = absurd (told-apart e)
-by-zero (suc f) n p e = let a : suc f ≡ n = number-one e in (a, sym (place-one e), λ z. omega arith)
+by-zero : (f d n p : ℕ) → unlessFault f 0 (answered d) ≡ refused n p → (f ≡ n) × (p ≡ 0) × (n ≡ 0 → ⊥)
+by-zero zero d n p e = absurd (told-apart e)
+by-zero (suc f) d n p e = let a : suc f ≡ n = number-one e in (a, sym (place-one e), λ z. omega arith)
 
 by-mask : (s : State) (w : Write) (n : ℕ) (a b : Bool) → sized s ≡ a → ltb 15 (w .mask) ≡ b
     → pick a (pick b 9 (faultOf (w .id) (w .mask))) 6 ≡ n → (n ≡ 0 → ⊥)
@@ -130,5 +131,5 @@ by-mask s w n false b t u e z = inl (sym e, t)
 pub write-row : (s : State) (w : Write) (n p : ℕ) → writeAnswer s w ≡ refused n p → WriteRefused s w n p
 unfolding refusalOf
 write-row s w n p e =
-    let r = by-zero (refusalOf s w) n p e in
+    let r = by-zero (refusalOf s w) (difference s w) n p e in
     record { place = r .1; why = by-mask s w n (sized s) (ltb 15 (w .mask)) refl refl (r .0) (r .2) }

@@ -64,7 +64,7 @@ cell-words c i e v h j = go (eqb (bitsOf i) 0)
         set-small c i (merge (bitAnd (bitsOf i) e) (getD c i 0) v) h
         (merge-word (bitAnd (bitsOf i) e) (getD c i 0) v (omega (arith, held-small i, and-le-l (bitsOf i) e))) j
 
-write-words : (s : State) (w : Write) → Words s → Words (apply s w)
+pub write-words : (s : State) (w : Write) → Words s → Words (apply s w)
 unfolding put
 write-words s w h =
     let P : State → Type 0 = Words in
