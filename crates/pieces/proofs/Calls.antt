@@ -75,7 +75,7 @@ module _ (live spare : State) where
   close-refused p n q e c = rw (e, ← c) (refl, refl, refl, refl)
 
   pub close-accepted : (p : Progress) (n : ℕ) → bothSized live spare ≡ true → answered n ≡ closing p
-      → (both n (p .differences) ≡ closeAnswers p live spare) × (fresh ≡ closeProgress p live spare) × (taken live spare ≡ closedLive p live spare)
-      × (spare ≡ closedSpare p live spare)
+      → (both n (p .differences) ≡ closeAnswers p live spare) × (fresh ≡ closeProgress p live spare)
+      × (taken live spare ≡ closedLive p live spare) × (spare ≡ closedSpare p live spare)
   unfolding closeAnswer closeAnswers closeProgress closedLive closedSpare
   close-accepted p n e c = rw (e, ← c) (refl, refl, refl, refl)

@@ -1,13 +1,13 @@
 -- The invariant: what is left of the part leads from here to where the whole part leads, and counts, with what was counted so far, what the
 -- whole part counts. Assumes nothing.
 use mathlib.Core.Path.{_≡_, refl, sym, _∙_}
-use Prim.Native.Nat.{_+_, _-_, _%_, _≤_}
+use Prim.Native.Nat.{_+_, _-_, _≤_}
 use native.Mathlib.Omega.{arith}
 use borrow.Author.Needs.{needs}
 use lib.ListN.{length, drop}
 use Rattle.registers.specs.State.{st}
 use Rattle.registers.specs.Applied.{applyAll, differences}
-use Rattle.parts.specs.Progress.{after, made}
+use Rattle.parts.specs.Progress.{plus, after, made}
 use Rattle.parts.proofs.Makes.{part-end}
 use Rattle.parts.proofs.take_part.Statement.{statement}
 use Rattle.parts.proofs.take_part.Tie as tie
@@ -91,10 +91,9 @@ returns c =
     let o = at-loop .loop in
     let s = st (o .cells) (o .fog) (o .light) in
     let g = part-end s (o .q) (a .part .now) (o .at) (at-loop-test .loop-test .left) in
-    let n : o .n ≡ differences (st (a .cells .now) (a .fog .now) (a .light .now)) (made (a .p) (a .part .now)) =
-    omega (arith, g .2, o .inv .6) in
-    let sum : (a .p .differences + o .n % 0x100000000) % 0x100000000 ≡ (a .p .differences + o .n) % 0x100000000 = omega arith in
-    (rw (c .wrapping-add-u32 .ensures, sum, n, ← (sym (g .0) ∙ o .inv .4)), sym (g .1) ∙ o .inv .5)
+    let d = differences (st (a .cells .now) (a .fog .now) (a .light .now)) (made (a .p) (a .part .now)) in
+    let sum : c .wrapping-add-u32 .result ≡ plus (a .p .differences) d = omega (arith, c .wrapping-add-u32 .ensures, g .2, o .inv .6) in
+    (rw (sum, ← (sym (g .0) ∙ o .inv .4)), sym (g .1) ∙ o .inv .5)
 
 pub take-part-spec : {M : Type 1} → statement M
 take-part-spec =
