@@ -28,9 +28,9 @@ were accepted.
 
 Each list is read into a state of zeros of its own. A write made a difference if the register, table
 entry or index that it touches differs afterwards; each is judged on what those before it left. Data
-of the fog and light tables counts always, since it moves their index. The other writes set what was
-there already, or went to a register that isn't held, of shaders, vertex buffers or drawing: what
-these do isn't known here, and `pica show` lists them.
+of the fog and light tables counts always, since it moves their index. The other writes set nothing
+new, or went to a register that isn't held, of shaders, vertex buffers or drawing: what these do
+isn't known here, and `pica show` lists them.
 
   --csv    rows of comma-separated values on standard output (in UTF-8, with lines that end in
            CR LF), the first with the columns' names: path, verdict (ok, refused or unreadable),
