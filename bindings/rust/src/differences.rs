@@ -1,4 +1,6 @@
 //! What a write did, and what the writes of a list did: whether something differs afterwards, and how often.
+//!
+//! Neither type is `#[must_use]`, as other answers are: a list is mostly read, and a write mostly made, for what it leaves in the state.
 
 /// What a single write did; [`State::write`](crate::State::write) gives it.
 ///
