@@ -6,7 +6,7 @@ use borrow.Fn.Kinds.{Dens}
 use denote.Ref.{now}
 use Rattle.numbers.specs.Settled.{Settles, settled}
 use Rattle.registers.specs.State.{st}
-use Rattle.registers.specs.Applied.{applyAll}
+use Rattle.registers.specs.Applied.{applyAll, differences}
 use Rattle.commands.specs.Run.{runWith}
 use Rattle.commands.specs.Clear.{lastId, clear}
 use Rattle.commands.proofs.last_id.Reads as last-id
@@ -30,4 +30,4 @@ apply-run-settled κs a =
     let v = a .1 .1 .1 .1 .1 .1 .0 in
     let l = now (a .1 .1 .1 .1 .1 .1 .1 .0) in
     let j = a .1 .1 .1 .1 .1 .1 .1 .1 .0 in
-    settled _ _ (λ r. r) (λ r r′ e. e) tt (applyAll s (runWith h v l j)) (λ r e p. (refl, p))
+    settled _ _ (λ r. r) (λ r r′ e. e) (differences s (runWith h v l j)) (applyAll s (runWith h v l j)) (λ r e p. p)

@@ -4,7 +4,7 @@ use mathlib.Core.List.{List, [], _∷_}
 use Prim.Native.Nat.{ℕ, zero, suc, _+_, _-_, _≤_, _<_}
 use native.Mathlib.Numerals.{sub-one}
 use native.Mathlib.Omega.{arith}
-use lib.ListN.{getD}
+use lib.ListN.{length, getD}
 use borrow.Author.Tests.{ne-eqb}
 use Rattle.words.specs.Header.{idOf, maskOf, countOf, stepOf}
 use Rattle.words.specs.Writes.{writing}
@@ -22,6 +22,12 @@ pub runFrom-next : (l : List ℕ) (j n i m d : ℕ) → 0 < n
 unfolding runFrom
 runFrom-next l j zero i m d h = absurd (omega arith)
 runFrom-next l j (suc n) i m d h = rw (sub-one (suc n))
+
+pub runFrom-length : (l : List ℕ) (j n i m d : ℕ) → length (runFrom l j n i m d) ≡ n
+runFrom-length l j zero i m d = rw (runFrom-done l j 0 i m d (omega arith))
+runFrom-length l j (suc n) i m d =
+    let e : suc n - 1 ≡ n = omega arith in
+    rw (runFrom-next l j (suc n) i m d (omega arith), e, runFrom-length l (j + 1) n (i + d) m d)
 
 -- THE WRITES OF A COMMAND IN A LIST
 module _ (l : List ℕ) (at : ℕ) where

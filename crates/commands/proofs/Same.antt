@@ -1,11 +1,12 @@
--- A command to one id that is no port's data: of its values the last decides. Assumes nothing.
-use mathlib.Core.Path.{_≡_, refl, ap, _∙_}
+-- A command to one id that is no port's data: of its values the last decides, and each counts that changes the cell. Assumes nothing.
+use mathlib.Core.Path.{_≡_, refl, sym, ap, _∙_}
+use mathlib.Core.Bool.{false, not}
 use mathlib.Core.List.{List}
 use Prim.Native.Nat.{ℕ, zero, suc, _+_, _-_, _^_, _<_}
 use native.Mathlib.Omega.{arith}
 use lib.Bits.{bitAnd, and-le-r}
 use lib.Dec.{eqb}
-use lib.ListN.{length, getD, set}
+use lib.ListN.{length, getD, set, length-set}
 use lib.Seq.{getD-set-same, set-set}
 use borrow.Author.Tests.{ne-eqb}
 use Rattle.numbers.specs.Bits.{bit, spread, merge, pickBit}
@@ -15,11 +16,15 @@ use Rattle.words.specs.Writes.{Write}
 use Rattle.words.specs.declared.Header.{Header}
 use Rattle.registers.specs.Held.{bitsOf}
 use Rattle.registers.specs.State.{State, st}
-use Rattle.registers.specs.Applied.{applyAll}
+use Rattle.registers.specs.Applied.{put, applyAll, differs, differences}
 use Rattle.registers.proofs.Puts.{put-held, put-free}
+use Rattle.registers.proofs.Differences.{differs-held, differs-free}
 use Rattle.commands.specs.Run.{runFrom, runWith}
 use Rattle.commands.specs.ToOne.{ToOne}
-use Rattle.commands.proofs.Applying.{run-applied, same-first, same-applies}
+use Rattle.commands.specs.Changes.{change, changes}
+use Rattle.commands.proofs.Changes.{changes-none, changes-next}
+use Rattle.commands.proofs.Applying.{run-applied, run-counted, same-first, same-applies}
+use Rattle.commands.proofs.Applying.{same-counts, same-first-counts, same-alike-counts}
 
 -- of replacements in the same bits the last decides
 pick-last : (e o a b : ℕ) → pickBit e b (pickBit e a o) ≡ pickBit e b o
@@ -65,38 +70,64 @@ module _ (h : Header) (o : ToOne h) (l : List ℕ) where
       same-first h (o .one) s v l j
       ∙ rw (put-free s id (spread (h .mask)) v (o .noFog) (o .noLight) z) (free-run z s j (h .count))
 
+  pub free-counts : bitsOf id ≡ 0 → (s : State) (v j : ℕ) → differences s (runWith h v l j) ≡ 0
+  free-counts z s v j =
+      same-alike-counts h (o .one) false (λ t x. differs-free t id (spread (h .mask)) x (o .noFog) (o .noLight) z) s v l j
+
   -- HELD: the last value decides
   module _ (some : bitsOf id ≡ 0 → ⊥) (cells fog light : List ℕ) (b : id < length cells) where
     abbrev old : ℕ
     old = getD cells id 0
 
+    -- the state where the cell has taken v
+    abbrev with : ℕ → State
+    with v = st (set cells id (merge e old v)) fog light
+
     e-word : e < 2 ^ 32
     e-word = omega (arith, and-le-r (bitsOf id) (spread (h .mask)))
 
     -- one more write
-    held-next : (v j n : ℕ)
-        → applyAll (st (set cells id (merge e old v)) fog light) (rest j (suc n))
-        ≡ applyAll (st (set cells id (merge e old (getD l j 0))) fog light) (rest (j + 1) n)
-    held-next v j n =
-        let m : suc n - 1 ≡ n = omega arith in
-        let w = merge e old v in
-        same-applies l (h .mask) (st (set cells id w) fog light) j (suc n) id (omega arith)
-        ∙ rw (
-          m,
-          put-held (st (set cells id w) fog light) id (spread (h .mask)) (getD l j 0) some,
-          getD-set-same cells id w 0 b,
-          set-set cells id w,
-          merge-last e old v (getD l j 0) e-word,
-        )
+    puts : (v x : ℕ) → put (with v) id (spread (h .mask)) x ≡ with x
+    puts v x =
+        put-held (with v) id (spread (h .mask)) x some
+        ∙ rw (getD-set-same cells id (merge e old v) 0 b, set-set cells id (merge e old v), merge-last e old v x e-word)
 
-    held-run : (v j n : ℕ)
-        → applyAll (st (set cells id (merge e old v)) fog light) (rest j n)
-        ≡ st (set cells id (merge e old (pick (eqb n 0) v (getD l (j + n - 1) 0)))) fog light
+    tells : (v x : ℕ) → differs (with v) id (spread (h .mask)) x ≡ not (eqb (merge e old x) (merge e old v))
+    tells v x =
+        differs-held (with v) id (spread (h .mask)) x some (simp length-set b)
+        ∙ rw (getD-set-same cells id (merge e old v) 0 b, merge-last e old v x e-word)
+
+    held-run : (v j n : ℕ) → applyAll (with v) (rest j n) ≡ with (pick (eqb n 0) v (getD l (j + n - 1) 0))
     held-run v j zero = run-applied l (h .mask) _ j 0 id 0 (omega arith)
-    held-run v j (suc n) = held-next v j n ∙ held-run (getD l j 0) (j + 1) n ∙ rw (ne-eqb (suc n) 0 (λ z. omega arith), last-next l j n)
+    held-run v j (suc n) =
+        let m : suc n - 1 ≡ n = omega arith in
+        same-applies l (h .mask) (with v) j (suc n) id (omega arith)
+        ∙ rw (m, puts v (getD l j 0), ne-eqb (suc n) 0 (λ z. omega arith), ← last-next l j n) (held-run (getD l j 0) (j + 1) n)
 
-    pub held-command : (v j : ℕ) → applyAll (st cells fog light) (runWith h v l j)
-        ≡ st (set cells id (merge e old (pick (eqb (h .count) 0) v (getD l (j + h .count - 1) 0)))) fog light
+    pub held-command : (v j : ℕ)
+        → applyAll (st cells fog light) (runWith h v l j) ≡ with (pick (eqb (h .count) 0) v (getD l (j + h .count - 1) 0))
     held-command v j =
         same-first h (o .one) (st cells fog light) v l j
         ∙ rw (put-held (st cells fog light) id (spread (h .mask)) v some) (held-run v j (h .count))
+
+    -- as many writes made a difference as values change the cell
+    run-changes : (v j n : ℕ) → differences (with v) (rest j n) ≡ changes e old (merge e old v) l j n
+    run-changes v j zero =
+        run-counted l (h .mask) (with v) j 0 id 0 (omega arith) ∙ sym (changes-none e old l (merge e old v) j 0 (omega arith))
+    run-changes v j (suc n) =
+        let m : suc n - 1 ≡ n = omega arith in
+        let x = getD l j 0 in
+        same-counts l (h .mask) (with v) j (suc n) id (omega arith)
+        ∙ rw (m, puts v x, tells v x, run-changes x (j + 1) n)
+        (sym (rw m at (changes-next e old l (merge e old v) j (suc n) (omega arith))))
+
+    pub held-counts : (v j : ℕ)
+        → differences (st cells fog light) (runWith h v l j)
+        ≡ change old (merge e old v) + changes e old (merge e old v) l j (h .count)
+    held-counts v j =
+        same-first-counts h (o .one) (st cells fog light) v l j
+        ∙ rw (
+          put-held (st cells fog light) id (spread (h .mask)) v some,
+          differs-held (st cells fog light) id (spread (h .mask)) v some b,
+          run-changes v j (h .count),
+        )

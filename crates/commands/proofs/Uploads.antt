@@ -1,4 +1,4 @@
--- The writes of a command to a port's data leave what an upload leaves. Assumes nothing.
+-- The writes of a command to a port's data leave what an upload leaves, and each of them counts. Assumes nothing.
 use mathlib.Core.Path.{_≡_, refl, ap, _∙_}
 use mathlib.Core.Bool.{Bool, true, false, and-false}
 use mathlib.Core.List.{List}
@@ -17,11 +17,12 @@ use Rattle.words.specs.declared.Header.{Header}
 use Rattle.ports.specs.Ports.{named, rise, lightTable, lightIndex, fogCells, fogEntries, lightCells, lightEntries}
 use Rattle.ports.specs.Uploads.{withEntry, wrapped, uploaded, risen, fogCellsAfter, fogUploaded, lightCellsAfter, lightUploaded}
 use Rattle.ports.proofs.Uploads.{wrapped-inside, wrapped-end, uploaded-done, uploaded-next}
-use Rattle.registers.specs.State.{st}
-use Rattle.registers.specs.Applied.{applyAll}
+use Rattle.registers.specs.State.{State, st}
+use Rattle.registers.specs.Applied.{applyAll, differences}
 use Rattle.registers.proofs.Puts.{put-fog-data, put-light-data}
+use Rattle.registers.proofs.Differences.{differs-fog-data, differs-light-data}
 use Rattle.commands.specs.Run.{runFrom, runWith}
-use Rattle.commands.proofs.Applying.{run-applied, same-first, same-applies}
+use Rattle.commands.proofs.Applying.{run-applied, same-first, same-applies, same-alike-counts}
 
 -- THE INDEX
 
@@ -148,3 +149,11 @@ module _ (h : Header) (one : h .step ≡ 0) (v : ℕ) (l : List ℕ) (j : ℕ) (
       same-first h one (st cells fog light) v l j
       ∙ rw (put-light-data (st cells fog light) (h .id) (spread (h .mask)) v (light-only (h .id) g) g)
       (light-run l (h .mask) (h .count) j (h .id) (lightCells cells) fog es g (light-cells cells b))
+
+  -- each of its writes counts
+  pub fog-counts : (s : State) → fogData (h .id) ≡ true → differences s (runWith h v l j) ≡ suc (h .count)
+  fog-counts s f = same-alike-counts h one true (λ t x. differs-fog-data t (h .id) (spread (h .mask)) x f) s v l j
+
+  pub light-counts : (s : State) → lightData (h .id) ≡ true → differences s (runWith h v l j) ≡ suc (h .count)
+  light-counts s g =
+      same-alike-counts h one true (λ t x. differs-light-data t (h .id) (spread (h .mask)) x (light-only (h .id) g) g) s v l j

@@ -1,3 +1,4 @@
 pub mod Run
 pub mod ToOne
 pub mod Clear
+pub mod Changes

@@ -20,7 +20,7 @@ use Rattle.reader.specs.declared.ListVerdict.{ListVerdict}
 use Rattle.reader.proofs.read.Reads as read
 use Rattle.reader.proofs.read.Kinds as read-kinds
 use Rattle.pieces.specs.Pieces.{opening, openedSpare, feeding, fedSpare, closeAnswer, closeProgress, closedLive, closedSpare}
-use Rattle.pieces.specs.declared.Progress.{Progress}
+use Rattle.parts.specs.declared.Progress.{Progress}
 use Rattle.pieces.specs.declared.Going.{Going}
 use Rattle.pieces.specs.declared.Closed.{Closed}
 use Rattle.pieces.proofs.open.Reads as opens

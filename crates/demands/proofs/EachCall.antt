@@ -14,9 +14,9 @@ use Rattle.registers.specs.State.{State, sized}
 use Rattle.reader.specs.Read.{told as read-told}
 use Rattle.registers.specs.Applied.{applyAll}
 use Rattle.copies.specs.Copy.{taken}
-use Rattle.pieces.specs.Progress.{fresh, after, made, heldAt, counted, between, faultNumber, closing}
+use Rattle.parts.specs.Progress.{fresh, after, made, heldAt, counted, between, faultNumber, closing}
 use Rattle.pieces.specs.Pieces.{told, bothSized}
-use Rattle.pieces.specs.declared.Progress.{Progress}
+use Rattle.parts.specs.declared.Progress.{Progress}
 use Rattle.pieces.specs.declared.Going.{Going}
 use Rattle.pieces.specs.declared.Going.the-variants.{Come}
 use Rattle.pieces.specs.declared.Closed.{Closed}

@@ -17,10 +17,10 @@ use Rattle.words.specs.declared.Refusal.{Refusal}
 use Rattle.registers.specs.State.{State, sized}
 use Rattle.registers.specs.Single.{writeAnswer}
 use Rattle.reader.specs.Read.{readAnswer}
-use Rattle.pieces.specs.Progress.{fresh, after, counted, between, faultNumber, closing}
+use Rattle.parts.specs.Progress.{fresh, after, counted, between, faultNumber, closing}
 use Rattle.pieces.specs.Pieces.{wrongLength, bothSized, opening, feeding, closeAnswer}
 use Rattle.pieces.specs.Pieces as pieces
-use Rattle.pieces.specs.declared.Progress.{Progress}
+use Rattle.parts.specs.declared.Progress.{Progress}
 use Rattle.pieces.specs.declared.Going.the-variants.{Come}
 use Rattle.writes.specs.Listed.{writesAnswer}
 use Rattle.packer.specs.Packing.{packAnswer}

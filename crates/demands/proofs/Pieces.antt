@@ -19,10 +19,10 @@ use Rattle.reader.specs.ListVerdict.{verdict}
 use Rattle.reader.specs.Read.{told as read-told, readAnswer, readState}
 use Rattle.reader.specs.declared.ListVerdict.{ListVerdict}
 use Rattle.reader.proofs.Once.{told-one}
-use Rattle.pieces.specs.Progress.{fresh, after, made, heldAt, counted, closing}
+use Rattle.parts.specs.Progress.{fresh, after, made, heldAt, counted, closing}
 use Rattle.pieces.specs.Pieces.{wrongLength, bothSized, opening, openedSpare, feeding}
 use Rattle.pieces.specs.Pieces.{fedSpare, closeAnswer, closeProgress, closedLive, closedSpare}
-use Rattle.pieces.specs.declared.Progress.{Progress}
+use Rattle.parts.specs.declared.Progress.{Progress}
 use Rattle.pieces.specs.declared.Going.the-variants.{Come}
 use Rattle.pieces.specs.declared.Closed.{Closed}
 use Rattle.pieces.proofs.Steps.{after-none, after-append, made-none, made-append}

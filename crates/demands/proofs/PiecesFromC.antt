@@ -14,9 +14,9 @@ use denote.Triple.Clauses.{AtExit}
 use Rattle.registers.specs.State.{State, st, sized}
 use Rattle.registers.specs.Applied.{applyAll}
 use Rattle.reader.specs.Read.{readAnswer, readState}
-use Rattle.pieces.specs.Progress.{fresh, after, made, heldAt, counted}
+use Rattle.parts.specs.Progress.{fresh, after, made, heldAt, counted}
 use Rattle.pieces.specs.Pieces.{bothSized, opening, openedSpare, feeding, fedSpare, closeAnswer, closeProgress, closedLive, closedSpare}
-use Rattle.pieces.specs.declared.Progress.{Progress}
+use Rattle.parts.specs.declared.Progress.{Progress}
 use Rattle.pieces.proofs.Calls.{open-right, feed-right}
 use Rattle.pica.specs.Calls.{answer}
 use Rattle.pica.specs.Readers.{progressOf, wordsOf, readerAfter}

@@ -10,7 +10,8 @@ abbrev pub unlessFault : ℕ → ℕ → Answer → Answer
 unlessFault zero p rest = rest
 unlessFault (suc f) p rest = refused (suc f) p
 
--- Some calls give a second number besides their answer. A refusal gives neither.
+-- Some calls give a second number besides their answer: both n d. A refusal gives neither of the two: neither r p has its own number and
+-- place.
 pub data Answers : Type 0 where
   both : ℕ → ℕ → Answers
   neither : ℕ → ℕ → Answers

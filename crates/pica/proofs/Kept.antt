@@ -1,4 +1,4 @@
--- A reader's eleven words are a progress and a progress is eleven words; what refusal 6 leaves of them. Assumes nothing.
+-- A reader's twelve words are a progress and a progress is twelve words; what refusal 6 leaves of them. Assumes nothing.
 use mathlib.Core.Path.{_≡_, refl, sym, ap, _∙_}
 use mathlib.Core.Bool.{true, false}
 use mathlib.Core.List.{List, [], _∷_}
@@ -8,7 +8,7 @@ use lib.ListN.{length, getD, drop, replicate}
 use lib.Seq.{drop-cons, drop-length}
 use Rattle.registers.specs.State.{State, sized}
 use Rattle.pieces.specs.Pieces.{bothSized, opening, feeding, closeProgress}
-use Rattle.pieces.specs.declared.Progress.{Progress}
+use Rattle.parts.specs.declared.Progress.{Progress}
 use Rattle.pica.specs.Readers.{progressOf, wordsOf, readerAfter}
 
 pub progress-of-words : (p : Progress) → progressOf (wordsOf p) ≡ p
@@ -25,9 +25,9 @@ from-all zero at l e = let z : at ≡ length l = omega arith in rw z (sym (drop-
 from-all (suc n) at l e =
     ap (λ r. getD l at 0 ∷ r) (from-all n (suc at) l (omega arith)) ∙ sym (drop-cons l at 0 (omega arith))
 
-pub words-of-progress : (ws : List ℕ) → length ws ≡ 11 → wordsOf (progressOf ws) ≡ ws
+pub words-of-progress : (ws : List ℕ) → length ws ≡ 12 → wordsOf (progressOf ws) ≡ ws
 unfolding from
-words-of-progress ws e = from-all 11 0 ws (sym e)
+words-of-progress ws e = from-all 12 0 ws (sym e)
 
 -- REFUSAL 6 LEAVES THE READER'S WORDS AS THEY WERE
 module _ (ws : List ℕ) (live spare : State) where
@@ -39,15 +39,15 @@ module _ (ws : List ℕ) (live spare : State) where
   unfolding feeding
   feed-keeps-reader l e = rw e
 
-  pub close-keeps-reader : length ws ≡ 11 → bothSized live spare ≡ false → wordsOf (closeProgress (progressOf ws) live spare) ≡ ws
+  pub close-keeps-reader : length ws ≡ 12 → bothSized live spare ≡ false → wordsOf (closeProgress (progressOf ws) live spare) ≡ ws
   unfolding closeProgress
   close-keeps-reader n e = rw e (words-of-progress ws n)
 
   -- and after any other opening or close they are zeros
-  pub open-clears-reader : bothSized live spare ≡ true → readerAfter (opening live spare) ws ≡ replicate 11 0
+  pub open-clears-reader : bothSized live spare ≡ true → readerAfter (opening live spare) ws ≡ replicate 12 0
   unfolding opening
   open-clears-reader e = rw e
 
-  pub close-clears-reader : bothSized live spare ≡ true → wordsOf (closeProgress (progressOf ws) live spare) ≡ replicate 11 0
+  pub close-clears-reader : bothSized live spare ≡ true → wordsOf (closeProgress (progressOf ws) live spare) ≡ replicate 12 0
   unfolding closeProgress
   close-clears-reader e = rw e

@@ -10,14 +10,14 @@ use Rattle.numbers.specs.Settled.{Settles, settled}
 use Rattle.words.specs.Writes.{writing}
 use Rattle.registers.specs.State.{State, st}
 use Rattle.registers.specs.Single.{writeAnswer, writeState}
-use Rattle.reader.specs.Read.{readAnswer, readState}
-use Rattle.pieces.specs.Pieces.{opening, openedSpare, feeding, fedSpare, closeAnswer, closeProgress, closedLive, closedSpare}
+use Rattle.reader.specs.Read.{readAnswers, readState}
+use Rattle.pieces.specs.Pieces.{opening, openedSpare, feeding, fedSpare, closeAnswers, closeProgress, closedLive, closedSpare}
 use Rattle.pieces.specs.Pieces as pieces
 use Rattle.writes.specs.Listed.{writesAnswer, writesIds, writesMasks, writesValues}
 use Rattle.writes.proofs.Once.{buffers}
 use Rattle.packer.specs.Packing.{packAnswer, packSpace}
 use Rattle.decode.specs.Decoded.{decodedOf}
-use Rattle.pica.specs.Calls.{answer, decodeCall, fieldsAfter, fragmentOf, fragmentCall, storedWordsAfter}
+use Rattle.pica.specs.Calls.{answer, answers, differencesAfter, decodeCall, fieldsAfter, fragmentOf, fragmentCall, storedWordsAfter}
 use Rattle.pica.specs.Readers.{progressOf, wordsOf, readerAfter}
 use Rattle.pica.proofs.pica_read.Reads as read
 use Rattle.pica.proofs.pica_read.Kinds as read-kinds
@@ -38,11 +38,13 @@ use Rattle.pica.proofs.pica_decode.Kinds as decode-kinds
 use Rattle.pica.proofs.pica_fragment.Reads as fragment
 use Rattle.pica.proofs.pica_fragment.Kinds as fragment-kinds
 
-pub pica-read-settled : (κs : Lfts 4) (a : Dens κs read-kinds.ps)
-    → Settles (λ e. st (now (e .0)) (now (e .1 .0)) (now (e .1 .1 .0))) (read.Post κs a)
+pub pica-read-settled : (κs : Lfts 5) (a : Dens κs read-kinds.ps)
+    → Settles {B = State × List ℕ} (λ e. (st (now (e .0)) (now (e .1 .0)) (now (e .1 .1 .0)), now (e .1 .1 .1 .1 .0))) (read.Post κs a)
 pica-read-settled κs a =
     let s = st (now (a .0)) (now (a .1 .0)) (now (a .1 .1 .0)) in
-    let l = now (a .1 .1 .1 .0) in settled _ _ (λ r. r) (λ r r′ e. e) (answer (readAnswer s l)) (readState s l) (λ r e p. p)
+    let r = readAnswers s (now (a .1 .1 .1 .0)) in
+    settled _ _ (λ r. r) (λ r r′ e. e) (answers r) (readState s (now (a .1 .1 .1 .0)), differencesAfter r (now (a .1 .1 .1 .1 .0)))
+    (λ r e p. (p .0, rw (p .1 .0, p .1 .1)))
 
 pub pica-open-settled : (κs : Lfts 7) (a : Dens κs opens-kinds.ps)
     → Settles {B = State × List ℕ}
@@ -66,21 +68,27 @@ pica-feed-settled κs a =
     settled _ _ (λ r. r) (λ r r′ e. e) (answer (pieces.told g)) (fedSpare (progressOf ws) spare l, readerAfter g ws)
     (λ r e p. (p .0, rw (p .1 .0, p .1 .1)))
 
-pub pica-close-settled : (κs : Lfts 7) (a : Dens κs close-kinds.ps)
-    → Settles {B = State × State × List ℕ}
+pub pica-close-settled : (κs : Lfts 8) (a : Dens κs close-kinds.ps)
+    → Settles {B = State × State × List ℕ × List ℕ}
     (λ e. (
       st (now (e .0)) (now (e .1 .0)) (now (e .1 .1 .0)),
       st (now (e .1 .1 .1 .0)) (now (e .1 .1 .1 .1 .0)) (now (e .1 .1 .1 .1 .1 .0)),
       now (e .1 .1 .1 .1 .1 .1 .0),
+      now (e .1 .1 .1 .1 .1 .1 .1 .0),
     ))
     (close.Post κs a)
 pica-close-settled κs a =
     let live = st (now (a .0)) (now (a .1 .0)) (now (a .1 .1 .0)) in
     let spare = st (now (a .1 .1 .1 .0)) (now (a .1 .1 .1 .1 .0)) (now (a .1 .1 .1 .1 .1 .0)) in
     let q = progressOf (now (a .1 .1 .1 .1 .1 .1 .0)) in
-    settled _ _ (λ r. r) (λ r r′ e. e) (answer (closeAnswer q live spare))
-    (closedLive q live spare, closedSpare q live spare, wordsOf (closeProgress q live spare))
-    (λ r e p. (p .0, rw (p .1 .0, p .1 .1 .0, p .1 .1 .1)))
+    let r = closeAnswers q live spare in
+    settled _ _ (λ r. r) (λ r r′ e. e) (answers r) (
+      closedLive q live spare,
+      closedSpare q live spare,
+      wordsOf (closeProgress q live spare),
+      differencesAfter r (now (a .1 .1 .1 .1 .1 .1 .1 .0)),
+    )
+    (λ r e p. (p .0, rw (p .1 .0, p .1 .1 .0, p .1 .1 .1 .0, p .1 .1 .1 .1)))
 
 pub pica-write-settled : (κs : Lfts 3) (a : Dens κs write-kinds.ps)
     → Settles (λ e. st (now (e .0)) (now (e .1 .0)) (now (e .1 .1 .0))) (write.Post κs a)

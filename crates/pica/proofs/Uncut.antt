@@ -19,14 +19,16 @@ use Rattle.words.specs.Writes.{Write}
 use Rattle.words.specs.Commands.{headerAt, whole, expand, places, commands, expansion}
 use Rattle.words.proofs.Laws.{run-length}
 use Rattle.registers.specs.State.{State, sized}
-use Rattle.registers.specs.Single.{atZero, refusalOf, writeAnswer}
+use Rattle.registers.specs.Applied.{difference}
+use Rattle.registers.proofs.Differences.{difference-most}
+use Rattle.registers.specs.Single.{refusalOf, writeAnswer}
 use Rattle.reader.specs.ListVerdict.{firstFault, commandFault, judge, verdict}
 use Rattle.reader.specs.Read.{readAnswer}
 use Rattle.reader.proofs.Accepted.{verdict-accepted}
-use Rattle.pieces.specs.Progress.{fresh, after, counted, between, faultNumber, closing}
-use Rattle.pieces.specs.Pieces.{wrongLength, bothSized, opening, feeding, closeAnswer}
+use Rattle.parts.specs.Progress.{fresh, after, counted, between, faultNumber, closing}
+use Rattle.pieces.specs.Pieces.{wrongLength, bothSized, opening, fed, feeding, closeAnswer}
 use Rattle.pieces.specs.Pieces as pieces
-use Rattle.pieces.specs.declared.Progress.{Progress}
+use Rattle.parts.specs.declared.Progress.{Progress}
 use Rattle.pieces.specs.declared.Going.the-variants.{Come}
 use Rattle.writes.specs.Listed.{writesAnswer}
 use Rattle.runs.specs.PackedList.{writes, packed}
@@ -121,7 +123,7 @@ pub feed-uncut : (p : Progress) (spare : State) (l : List ℕ) → valueIn (piec
 unfolding feeding
 feed-uncut p spare l = go (sized spare)
   where
-    go : (b : Bool) → valueIn (pieces.told (pick b (Come (counted (after p l))) wrongLength)) ≤ 65537
+    go : (b : Bool) → valueIn (pieces.told (pick b (Come (fed p spare l)) wrongLength)) ≤ 65537
     go true = held-below (after p l .come) (ltb 65536 (after p l .come)) refl
     go false = omega arith
 
@@ -146,12 +148,12 @@ close-uncut p live spare h g = go (bothSized live spare) (ltb 65536 (p .come)) (
 
 -- ONE WRITE
 
-at-zero : (n : ℕ) → valueIn (atZero n) ≡ 0
-at-zero zero = refl
-at-zero (suc n) = refl
+at-zero : (n d : ℕ) → d ≤ 1 → valueIn (unlessFault n 0 (answered d)) ≤ 1
+at-zero zero d h = h
+at-zero (suc n) d h = omega arith
 
-pub write-uncut : (s : State) (w : Write) → valueIn (writeAnswer s w) ≤ 65536
-write-uncut s w = omega (arith, at-zero (refusalOf s w))
+pub write-uncut : (s : State) (w : Write) → valueIn (writeAnswer s w) ≤ 1
+write-uncut s w = at-zero (refusalOf s w) (difference s w) (difference-most s w)
 
 -- where there is room, or none, the value is what is needed
 room-value : (number need : ℕ) (b : Bool) → valueIn (pick b (answered need) (refused number need)) ≡ need

@@ -23,9 +23,13 @@ abbrev pub answer : Answer → ℕ
 answer (answered n) = call 0 n
 answer (refused r p) = call r p
 
--- pica_read, pica_close: how many writes made a difference, in one word; untouched on a refusal
+-- pica_read, pica_close: the number of writes; and besides, in one word, how many of them made a difference, untouched on a refusal
+abbrev pub answers : Answers → ℕ
+answers (both n d) = call 0 n
+answers (neither r p) = call r p
+
 abbrev pub differencesAfter : Answers → List ℕ → List ℕ
-differencesAfter (both n d) old = d % 0x100000000 ∷ []
+differencesAfter (both n d) old = d ∷ []
 differencesAfter (neither r p) old = old
 
 -- pica_decode: 0, and one word a field; untouched on a refusal

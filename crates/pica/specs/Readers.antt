@@ -3,7 +3,7 @@
 use mathlib.Core.List.{List, [], _∷_}
 use Prim.Native.Nat.{ℕ}
 use lib.ListN.{getD}
-use Rattle.pieces.specs.declared.Progress.{Progress}
+use Rattle.parts.specs.declared.Progress.{Progress}
 use Rattle.pieces.specs.declared.Going.{Going}
 use Rattle.pieces.specs.declared.Going.the-variants.{Come, Refused}
 

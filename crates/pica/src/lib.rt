@@ -5,20 +5,23 @@ ghost use lib.ListN.{length};
 ghost use Rattle.words.specs.Writes.{writing};
 ghost use Rattle.registers.specs.State.{st};
 ghost use Rattle.registers.specs.Single.{writeAnswer, writeState};
-ghost use Rattle.reader.specs.Read.{readAnswer, readState};
-ghost use Rattle.pieces.specs.Pieces.{opening, openedSpare, feeding, fedSpare, closeAnswer, closeProgress, closedLive, closedSpare};
+ghost use Rattle.numbers.specs.Pick.{pick};
+ghost use Rattle.reader.specs.Read.{readAnswers, readState};
+ghost use Rattle.pieces.specs.Pieces.{opening, openedSpare, feeding, fedSpare, closeAnswers, closeProgress, closedLive, closedSpare};
 ghost use Rattle.pieces.specs.Pieces as pieces;
 ghost use Rattle.writes.specs.Listed.{writesAnswer, writesIds, writesMasks, writesValues};
 ghost use Rattle.packer.specs.Packing.{packAnswer, packSpace};
 ghost use Rattle.decode.specs.Decoded.{decodedOf};
 ghost use Rattle.stores.specs.Tests.{verdictNumber};
-ghost use Rattle.pica.specs.Calls.{call, answer, decodeCall, fieldsAfter, fragmentOf, fragmentCall, storedWordsAfter};
+ghost use Rattle.pica.specs.Calls.{call, answer, answers, differencesAfter};
+ghost use Rattle.pica.specs.Calls.{decodeCall, fieldsAfter, fragmentOf, fragmentCall, storedWordsAfter};
 ghost use Rattle.pica.specs.Readers.{progressOf, wordsOf, readerAfter};
 use decode::Decoded;
 use fragment::Drawn;
 use packer::Packed;
 use pieces::Going;
 use reader::ListVerdict;
+use reader::Reading;
 use registers::Written;
 use stores::Verdict;
 use words::Refusal;
@@ -33,16 +36,22 @@ fn told(number: u32, value: usize) -> u64
     number as u64 * 0x100000000 + value as u64 % 0x100000000
 }
 
-// A list read into a state: the number of its writes.
+// A list read into a state: the number of its writes, and how many of them made a difference.
 #[no_mangle]
 pub extern "C" fn pica_read(
     cells: &mut [u32],
     fog: &mut [u32],
     light: &mut [u32],
     list: &[u32],
+    differences: &mut [u32; 1],
 ) -> u64
     ensures answer { λ r. ⌜
-        r ≡ answer (readAnswer (st (now (cells .entry)) (now (fog .entry)) (now (light .entry))) (now (list .entry)))
+        r ≡ answers (readAnswers (st (now (cells .entry)) (now (fog .entry)) (now (light .entry))) (now (list .entry)))
+        ⌝ }
+    ensures differences { λ _. ⌜
+        now (differences .exit)
+        ≡ differencesAfter (readAnswers (st (now (cells .entry)) (now (fog .entry)) (now (light .entry))) (now (list .entry)))
+        (now (differences .entry))
         ⌝ }
     ensures state { λ _. ⌜
         st (now (cells .exit)) (now (fog .exit)) (now (light .exit))
@@ -50,13 +59,17 @@ pub extern "C" fn pica_read(
         ⌝ }
 {
     match reader::read(cells, fog, light, list) {
-        ListVerdict::Accepted(n) => told(0, n),
-        ListVerdict::Refused(why) => told(why.number, why.place),
+        Reading::Accepted(counts) => {
+            let writes = counts.writes;
+            *differences = [counts.differences];
+            told(0, writes)
+        }
+        Reading::Refused(why) => told(why.number, why.place),
     }
 }
 
 // How a reading goes on, laid into the reader and told: the words that have come, or the refusal.
-fn told_going(reader: &mut [u32; 11], g: Going) -> u64
+fn told_going(reader: &mut [u32; 12], g: Going) -> u64
     ensures answer { λ r. ⌜ r ≡ answer (pieces.told g) ⌝ }
     ensures reader { λ _. ⌜ now (reader .exit) ≡ readerAfter g (now (reader .entry)) ⌝ }
 {
@@ -79,7 +92,7 @@ pub extern "C" fn pica_open(
     spare_cells: &mut [u32],
     spare_fog: &mut [u32],
     spare_light: &mut [u32],
-    reader: &mut [u32; 11],
+    reader: &mut [u32; 12],
 ) -> u64
     ensures answer { λ r. ⌜
         r
@@ -111,7 +124,7 @@ pub extern "C" fn pica_feed(
     spare_cells: &mut [u32],
     spare_fog: &mut [u32],
     spare_light: &mut [u32],
-    reader: &mut [u32; 11],
+    reader: &mut [u32; 12],
     part: &[u32],
 ) -> u64
     ensures answer { λ r. ⌜
@@ -139,7 +152,7 @@ pub extern "C" fn pica_feed(
     told_going(reader, went)
 }
 
-// The list is closed: the number of its writes.
+// The list is closed: the number of its writes, and how many of them made a difference.
 #[no_mangle]
 pub extern "C" fn pica_close(
     cells: &mut [u32],
@@ -148,13 +161,21 @@ pub extern "C" fn pica_close(
     spare_cells: &mut [u32],
     spare_fog: &mut [u32],
     spare_light: &mut [u32],
-    reader: &mut [u32; 11],
+    reader: &mut [u32; 12],
+    differences: &mut [u32; 1],
 ) -> u64
     ensures answer { λ r. ⌜
         r
-        ≡ answer
-        (closeAnswer (progressOf (now (reader .entry))) (st (now (cells .entry)) (now (fog .entry)) (now (light .entry)))
+        ≡ answers
+        (closeAnswers (progressOf (now (reader .entry))) (st (now (cells .entry)) (now (fog .entry)) (now (light .entry)))
         (st (now («spare_cells» .entry)) (now («spare_fog» .entry)) (now («spare_light» .entry))))
+        ⌝ }
+    ensures differences { λ _. ⌜
+        now (differences .exit)
+        ≡ differencesAfter
+        (closeAnswers (progressOf (now (reader .entry))) (st (now (cells .entry)) (now (fog .entry)) (now (light .entry)))
+        (st (now («spare_cells» .entry)) (now («spare_fog» .entry)) (now («spare_light» .entry))))
+        (now (differences .entry))
         ⌝ }
     ensures reader { λ _. ⌜
         now (reader .exit)
@@ -178,12 +199,22 @@ pub extern "C" fn pica_close(
     let verdict = closed.verdict;
     *reader = readers::words_of(closed.progress);
     match verdict {
-        ListVerdict::Accepted(made) => told(0, made),
-        ListVerdict::Refused(fault) => told(fault.number, fault.place),
+        Reading::Accepted(made) => {
+            let writes = made.writes;
+            *differences = [made.differences];
+            told(0, writes)
+        }
+        Reading::Refused(fault) => told(fault.number, fault.place),
     }
 }
 
-// One write applied to a state: 0.
+fn one_if(difference: bool) -> usize
+    ensures { λ r. ⌜ r ≡ pick difference 1 0 ⌝ }
+{
+    if difference { 1 } else { 0 }
+}
+
+// One write applied to a state: 1 if it made a difference, else 0.
 #[no_mangle]
 pub extern "C" fn pica_write(
     cells: &mut [u32],
@@ -202,7 +233,7 @@ pub extern "C" fn pica_write(
         ⌝ }
 {
     match registers::write(cells, fog, light, id, mask, value) {
-        Written::Done => 0,
+        Written::Done(difference) => told(0, one_if(difference)),
         Written::Refused(why) => told(why.number, why.place),
     }
 }

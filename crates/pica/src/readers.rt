@@ -1,9 +1,9 @@
-// The eleven words that a C caller keeps of a reading in progress. The contracts cite specs/Readers.antt.
+// The twelve words that a C caller keeps of a reading in progress. The contracts cite specs/Readers.antt.
 ghost use mathlib.Core.Path.{_≡_};
 ghost use Rattle.pica.specs.Readers.{progressOf, wordsOf};
-use pieces::Progress;
+use parts::Progress;
 
-pub fn progress_of(reader: &[u32; 11]) -> Progress
+pub fn progress_of(reader: &[u32; 12]) -> Progress
     ensures { λ r. ⌜ r ≡ progressOf (now (reader .entry)) ⌝ }
 {
     Progress {
@@ -18,10 +18,11 @@ pub fn progress_of(reader: &[u32; 11]) -> Progress
         pad: reader[8],
         writes: reader[9],
         fault: reader[10],
+        differences: reader[11],
     }
 }
 
-pub fn words_of(p: Progress) -> [u32; 11]
+pub fn words_of(p: Progress) -> [u32; 12]
     ensures { λ r. ⌜ r ≡ wordsOf p ⌝ }
 {
     [
@@ -36,5 +37,6 @@ pub fn words_of(p: Progress) -> [u32; 11]
         p.pad,
         p.writes,
         p.fault,
+        p.differences,
     ]
 }

@@ -4,14 +4,14 @@ use mathlib.Core.Bool.{Bool, true, false, _&&_, and-false}
 use mathlib.Core.List.{List}
 use Prim.Native.Nat.{ℕ}
 use Rattle.numbers.specs.Pick.{pick}
-use Rattle.numbers.specs.Answer.{answered, refused}
+use Rattle.numbers.specs.Answer.{answered, refused, both, neither}
 use Rattle.registers.specs.State.{State, sized}
 use Rattle.registers.specs.Applied.{applyAll}
-use Rattle.pieces.specs.Progress.{fresh, after, made, heldAt, counted, closing}
+use Rattle.parts.specs.Progress.{fresh, after, made, heldAt, closing}
 use Rattle.copies.specs.Copy.{taken}
-use Rattle.pieces.specs.Pieces.{told, wrongLength, bothSized, opening, openAnswer, openedSpare, feeding, feedAnswer, fedSpare}
-use Rattle.pieces.specs.Pieces.{closeAnswer, closeProgress, closedLive, closedSpare}
-use Rattle.pieces.specs.declared.Progress.{Progress}
+use Rattle.pieces.specs.Pieces.{told, wrongLength, bothSized, opening, openAnswer, openedSpare, fed, feeding, feedAnswer, fedSpare}
+use Rattle.pieces.specs.Pieces.{closeAnswer, closeAnswers, closeProgress, closedLive, closedSpare}
+use Rattle.parts.specs.declared.Progress.{Progress}
 use Rattle.pieces.specs.declared.Going.the-variants.{Come}
 
 -- FEEDING
@@ -20,7 +20,7 @@ module _ (p : Progress) (s : State) (l : List ℕ) where
   unfolding feeding fedSpare
   feed-wrong e = rw e (refl, refl)
 
-  pub feed-right : sized s ≡ true → (Come (counted (after p l)) ≡ feeding p s l) × (applyAll s (made p l) ≡ fedSpare p s l)
+  pub feed-right : sized s ≡ true → (Come (fed p s l) ≡ feeding p s l) × (applyAll s (made p l) ≡ fedSpare p s l)
   unfolding feeding fedSpare
   feed-right e = rw e (refl, refl)
 
@@ -37,7 +37,7 @@ pub feed-told : (p : Progress) (s : State) (l : List ℕ) → told (feeding p s 
 unfolding feeding feedAnswer
 feed-told p s l = go (sized s)
   where
-    go : (b : Bool) → told (pick b (Come (counted (after p l))) wrongLength) ≡ pick b (answered (heldAt (after p l .come))) (refused 6 0)
+    go : (b : Bool) → told (pick b (Come (fed p s l)) wrongLength) ≡ pick b (answered (heldAt (after p l .come))) (refused 6 0)
     go true = refl
     go false = refl
 
@@ -63,19 +63,19 @@ module _ (live spare : State) where
 
   -- CLOSING
   pub close-wrong : (p : Progress) → bothSized live spare ≡ false
-      → (refused 6 0 ≡ closeAnswer p live spare) × (p ≡ closeProgress p live spare) × (live ≡ closedLive p live spare)
+      → (neither 6 0 ≡ closeAnswers p live spare) × (p ≡ closeProgress p live spare) × (live ≡ closedLive p live spare)
       × (spare ≡ closedSpare p live spare)
-  unfolding closeAnswer closeProgress closedLive closedSpare
+  unfolding closeAnswer closeAnswers closeProgress closedLive closedSpare
   close-wrong p e = rw e (refl, refl, refl, refl)
 
   pub close-refused : (p : Progress) (n q : ℕ) → bothSized live spare ≡ true → refused n q ≡ closing p
-      → (refused n q ≡ closeAnswer p live spare) × (fresh ≡ closeProgress p live spare) × (live ≡ closedLive p live spare)
+      → (neither n q ≡ closeAnswers p live spare) × (fresh ≡ closeProgress p live spare) × (live ≡ closedLive p live spare)
       × (taken spare live ≡ closedSpare p live spare)
-  unfolding closeAnswer closeProgress closedLive closedSpare
+  unfolding closeAnswer closeAnswers closeProgress closedLive closedSpare
   close-refused p n q e c = rw (e, ← c) (refl, refl, refl, refl)
 
   pub close-accepted : (p : Progress) (n : ℕ) → bothSized live spare ≡ true → answered n ≡ closing p
-      → (answered n ≡ closeAnswer p live spare) × (fresh ≡ closeProgress p live spare) × (taken live spare ≡ closedLive p live spare)
+      → (both n (p .differences) ≡ closeAnswers p live spare) × (fresh ≡ closeProgress p live spare) × (taken live spare ≡ closedLive p live spare)
       × (spare ≡ closedSpare p live spare)
-  unfolding closeAnswer closeProgress closedLive closedSpare
+  unfolding closeAnswer closeAnswers closeProgress closedLive closedSpare
   close-accepted p n e c = rw (e, ← c) (refl, refl, refl, refl)

@@ -8,7 +8,7 @@ use borrow.Author.Tests.{ne-eqb}
 use Rattle.numbers.specs.Pick.{pick}
 use Rattle.words.specs.Writes.{Write, jumps, portData, faultOf}
 use Rattle.reader.specs.ListVerdict.{firstFault}
-use Rattle.pieces.specs.Progress.{faultNumber}
+use Rattle.parts.specs.Progress.{faultNumber}
 
 abbrev Known : ℕ → Type 0
 Known f = pick (eqb f 0) 0 (faultNumber f) ≡ f

@@ -14,9 +14,9 @@ use Rattle.words.specs.Commands.{headerAt, expand, commands, join, expansion}
 use Rattle.words.proofs.Laws.{commands-step, join-more}
 use Rattle.reader.specs.ListVerdict.{firstFault}
 use Rattle.commands.proofs.Runs.{param-later}
-use Rattle.pieces.specs.Progress.{plus, firstOf, extra, padding, headed, started, passed, next, sound, makes}
-use Rattle.pieces.specs.declared.Progress.{Progress}
-use Rattle.pieces.proofs.Steps.{Takes, takes-extra, takes-padding, takes-header, takes-first, takes-nothing}
+use Rattle.parts.specs.Progress.{plus, firstOf, extra, padding, headed, started, passed, next, sound, makes}
+use Rattle.parts.specs.declared.Progress.{Progress}
+use Rattle.parts.proofs.Steps.{Takes, takes-extra, takes-padding, takes-header, takes-first, takes-nothing}
 use Rattle.pieces.proofs.Stands.{Between, Begun, Inside, Ended, Stands, at-between, at-begun, at-inside, at-end}
 use Rattle.pieces.proofs.Stands.{fault-next, writes-next, settle}
 

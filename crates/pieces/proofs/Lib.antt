@@ -1,11 +1,6 @@
-pub mod Steps
 pub mod Faults
 pub mod Stands
 pub mod Goes
-pub mod Closing
-pub mod Counts
-pub mod Makes
-pub mod Ways
-pub mod Choices
+pub mod Whole
 pub mod Calls
 pub mod Once

@@ -4,15 +4,15 @@ use mathlib.Core.Path.{_≡_, refl, ap}
 use contract.Lifetimes.{Lfts}
 use borrow.Fn.Kinds.{Dens}
 use denote.Ref.{now}
-use Rattle.numbers.specs.Answer.{Answer}
+use Rattle.numbers.specs.Answer.{Answers}
 use Rattle.numbers.specs.Settled.{Settles, settled}
 use Rattle.registers.specs.State.{State, st}
-use Rattle.reader.specs.Read.{told}
-use Rattle.reader.specs.declared.ListVerdict.{ListVerdict}
-use Rattle.reader.proofs.Once.{told-one}
-use Rattle.pieces.specs.Progress.{fresh}
-use Rattle.pieces.specs.Pieces.{opening, openedSpare, feeding, fedSpare, closeAnswer, closeProgress, closedLive, closedSpare}
-use Rattle.pieces.specs.declared.Progress.{Progress}
+use Rattle.reader.specs.Read.{toldBoth}
+use Rattle.reader.specs.declared.Reading.{Reading}
+use Rattle.reader.proofs.Once.{both-one}
+use Rattle.parts.specs.Progress.{fresh}
+use Rattle.pieces.specs.Pieces.{opening, openedSpare, feeding, fedSpare, closeAnswers, closeProgress, closedLive, closedSpare}
+use Rattle.parts.specs.declared.Progress.{Progress}
 use Rattle.pieces.specs.declared.Closed.{Closed}
 use Rattle.pieces.proofs.fresh_progress.Reads as fresh-progress
 use Rattle.pieces.proofs.fresh_progress.Kinds as fresh-progress-kinds
@@ -42,15 +42,15 @@ feed-settled κs a =
     settled _ _ (λ r. r) (λ r r′ e. e) (feeding (a .0) spare l) (fedSpare (a .0) spare l) (λ r e p. (p .0, p .1 .0))
 
 -- a close is its verdict and its progress
-made : ListVerdict → Progress → Closed
+made : Reading → Progress → Closed
 made v p = record { verdict = v; progress = p }
 
 closed-one : (r q : Closed) → r .verdict ≡ q .verdict → r .progress ≡ q .progress → r ≡ q
 unfolding made
 closed-one r q v p = let e : made (r .verdict) (r .progress) ≡ made (q .verdict) (q .progress) = rw (v, p) in e
 
-abbrev means : Closed → Answer × Progress
-means r = (told (r .verdict), r .progress)
+abbrev means : Closed → Answers × Progress
+means r = (toldBoth (r .verdict), r .progress)
 
 pub close-settled : (κs : Lfts 6) (a : Dens κs close-kinds.ps)
     → Settles {B = State × State}
@@ -63,7 +63,7 @@ close-settled κs a =
     let live = st (now (a .1 .0)) (now (a .1 .1 .0)) (now (a .1 .1 .1 .0)) in
     let spare = st (now (a .1 .1 .1 .1 .0)) (now (a .1 .1 .1 .1 .1 .0)) (now (a .1 .1 .1 .1 .1 .1 .0)) in
     settled _ _ means
-    (λ r q e. closed-one r q (told-one (r .verdict) (q .verdict) (ap (λ (x : Answer × Progress). x .0) e))
-    (ap (λ (x : Answer × Progress). x .1) e))
-    (closeAnswer (a .0) live spare, closeProgress (a .0) live spare) (closedLive (a .0) live spare, closedSpare (a .0) live spare)
+    (λ r q e. closed-one r q (both-one (r .verdict) (q .verdict) (ap (λ (x : Answers × Progress). x .0) e))
+    (ap (λ (x : Answers × Progress). x .1) e))
+    (closeAnswers (a .0) live spare, closeProgress (a .0) live spare) (closedLive (a .0) live spare, closedSpare (a .0) live spare)
     (λ r e p. (rw (p .0, p .1 .0), rw (p .1 .1 .0, p .1 .1 .1)))

@@ -15,8 +15,8 @@ use Rattle.words.specs.Commands.{headerAt, paramAt, run, expand, commands, join
 use Rattle.words.proofs.Laws.{run-done, run-next}
 use Rattle.reader.specs.ListVerdict.{firstFault, judge, verdict}
 use Rattle.reader.proofs.Judging.{run-none, run-good, run-bad, judge-fault, judge-pass}
-use Rattle.pieces.specs.Progress.{firstOf, sound, faultNumber}
-use Rattle.pieces.specs.declared.Progress.{Progress}
+use Rattle.parts.specs.Progress.{firstOf, sound, faultNumber}
+use Rattle.parts.specs.declared.Progress.{Progress}
 use Rattle.pieces.proofs.Faults.{number-known}
 
 module _ (l : List ℕ) where

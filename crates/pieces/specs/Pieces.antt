@@ -10,8 +10,8 @@ use Rattle.registers.specs.State.{State, sized}
 use Rattle.registers.specs.Applied.{applyAll, differences}
 use Rattle.copies.specs.Copy.{taken}
 use Rattle.reader.specs.Read.{ifAnswered}
-use Rattle.pieces.specs.Progress.{fresh, plus, after, made, heldAt, counted, tallied, closing}
-use Rattle.pieces.specs.declared.Progress.{Progress}
+use Rattle.parts.specs.Progress.{fresh, plus, after, made, heldAt, counted, tallied, closing}
+use Rattle.parts.specs.declared.Progress.{Progress}
 use Rattle.pieces.specs.declared.Going.{Going}
 use Rattle.pieces.specs.declared.Going.the-variants.{Come, Refused}
 
@@ -37,8 +37,8 @@ openAnswer live spare = pick (bothSized live spare) (answered 0) (refused 6 0)
 unfoldable pub openedSpare : State → State → State
 openedSpare live spare = pick (bothSized live spare) (taken spare live) spare
 
--- FEEDING a part: the progress after its words, with those of the writes that they make counted that make a difference, each judged on the
--- spare state left by those before it
+-- FEEDING a part: the progress after its words; its differences rise by those of the writes that the words make, each judged on the spare
+-- state left by those before it
 abbrev pub fed : Progress → State → List ℕ → Progress
 fed p spare part = tallied (counted (after p part)) (plus (p .differences) (differences spare (made p part)))
 
@@ -49,7 +49,7 @@ feeding p spare part = pick (sized spare) (Come (fed p spare part)) wrongLength
 unfoldable pub feedAnswer : Progress → State → List ℕ → Answer
 feedAnswer p spare part = pick (sized spare) (answered (heldAt (after p part .come))) (refused 6 0)
 
--- the spare state after those writes
+-- and the spare state is left as those writes leave it
 unfoldable pub fedSpare : Progress → State → List ℕ → State
 fedSpare p spare part = pick (sized spare) (applyAll spare (made p part)) spare
 
@@ -57,7 +57,7 @@ fedSpare p spare part = pick (sized spare) (applyAll spare (made p part)) spare
 unfoldable pub closeAnswer : Progress → State → State → Answer
 closeAnswer p live spare = pick (bothSized live spare) (closing p) (refused 6 0)
 
--- with, besides the number of writes, how many of them made a difference; a refused list gives neither
+-- with, besides the number of writes, how many of them made a difference; a refusal gives neither
 unfoldable pub closeAnswers : Progress → State → State → Answers
 closeAnswers p live spare = besides (closeAnswer p live spare) (p .differences)
 

@@ -1,40 +1,18 @@
 // A list that arrives in pieces: a reader that is opened, fed parts cut anywhere, and closed. It works on a spare state that is lent beside
-// the live one. The contracts cite specs/Progress.antt and specs/Pieces.antt.
+// the live one. The contracts cite specs/Pieces.antt, and specs/Progress.antt of `parts`.
 ghost use mathlib.Core.Path.{_≡_};
-ghost use Rattle.numbers.specs.Answer.{refused};
+ghost use Rattle.numbers.specs.Answer.{neither};
 ghost use Rattle.registers.specs.State.{st};
-ghost use Rattle.reader.specs.Read.{told};
-ghost use Rattle.pieces.specs.Progress.{fresh, counted, closing, faultNumber};
+ghost use Rattle.reader.specs.Read.{told, toldBoth};
+ghost use Rattle.parts.specs.Progress.{fresh, counted, closing, faultNumber};
 ghost use Rattle.pieces.specs.Pieces as going;
 ghost use Rattle.pieces.specs.Pieces.{opening, openAnswer, openedSpare, feeding, feedAnswer, fedSpare};
-ghost use Rattle.pieces.specs.Pieces.{closeAnswer, closeProgress, closedLive, closedSpare};
+ghost use Rattle.pieces.specs.Pieces.{closeAnswers, closeProgress, closedLive, closedSpare};
+use parts::Progress;
+use reader::Counts;
 use reader::ListVerdict;
+use reader::Reading;
 use words::Refusal;
-
-mod parts;
-
-// How far a reading has come: what the words so far leave for the next one to go by.
-pub struct Progress {
-    // the words that have come, held at 65,537
-    pub come: u32,
-    // the first word of the present command, counted from the list's start
-    pub place: u32,
-    // 1 where the command's first parameter has come and its header hasn't
-    pub begun: u32,
-    // that parameter
-    pub first: u32,
-    // the id of the last write, the mask, and by how much ids rise
-    pub id: u32,
-    pub mask: u32,
-    pub step: u32,
-    // the extra parameters and the padding words that are still to come
-    pub left: u32,
-    pub pad: u32,
-    // the writes of all headers so far
-    pub writes: u32,
-    // the number of the first fault, 0 for none
-    pub fault: u32,
-}
 
 // A reading of which no word has come.
 pub fn fresh_progress() -> Progress
@@ -52,6 +30,7 @@ pub fn fresh_progress() -> Progress
         pad: 0,
         writes: 0,
         fault: 0,
+        differences: 0,
     }
 }
 
@@ -180,18 +159,19 @@ fn verdict_so_far(p: Progress) -> ListVerdict
     })
 }
 
-// What a close tells: the verdict, and the progress to go on from, which is fresh after any verdict but 6.
+// What a close tells: the number of writes and how many of them made a difference, or a refusal; and the progress to go on from, which is
+// fresh after any verdict but 6.
 pub struct Closed {
-    pub verdict: ListVerdict,
+    pub verdict: Reading,
     pub progress: Progress,
 }
 
 fn wrong_length(p: Progress) -> Closed
-    ensures verdict { λ r. ⌜ told (r .verdict) ≡ refused 6 0 ⌝ }
+    ensures verdict { λ r. ⌜ toldBoth (r .verdict) ≡ neither 6 0 ⌝ }
     ensures progress { λ r. ⌜ r .progress ≡ p ⌝ }
 {
     Closed {
-        verdict: ListVerdict::Refused(Refusal {
+        verdict: Reading::Refused(Refusal {
             number: words::BUFFER_LENGTH,
             place: 0,
         }),
@@ -211,8 +191,8 @@ pub fn close(
     spare_light: &mut [u32],
 ) -> Closed
     ensures answer { λ r. ⌜
-        told (r .verdict)
-        ≡ closeAnswer p (st (now (cells .entry)) (now (fog .entry)) (now (light .entry)))
+        toldBoth (r .verdict)
+        ≡ closeAnswers p (st (now (cells .entry)) (now (fog .entry)) (now (light .entry)))
         (st (now («spare_cells» .entry)) (now («spare_fog» .entry)) (now («spare_light» .entry)))
         ⌝ }
     ensures progress { λ r. ⌜
@@ -237,15 +217,23 @@ pub fn close(
     if !registers::is_sized(spare_cells, spare_fog, spare_light) {
         return wrong_length(p);
     }
-    let verdict = verdict_so_far(p);
     let progress = fresh_progress();
-    let ListVerdict::Accepted(n) = verdict else {
-        copies::take_state(spare_cells, spare_fog, spare_light, cells, fog, light);
-        return Closed { verdict, progress };
-    };
-    copies::take_state(cells, fog, light, spare_cells, spare_fog, spare_light);
-    Closed {
-        verdict: ListVerdict::Accepted(n),
-        progress,
+    match verdict_so_far(p) {
+        ListVerdict::Refused(why) => {
+            copies::take_state(spare_cells, spare_fog, spare_light, cells, fog, light);
+            let verdict = Reading::Refused(why);
+            Closed { verdict, progress }
+        }
+        ListVerdict::Accepted(writes) => {
+            copies::take_state(cells, fog, light, spare_cells, spare_fog, spare_light);
+            let differences = p.differences;
+            Closed {
+                verdict: Reading::Accepted(Counts {
+                    writes,
+                    differences,
+                }),
+                progress,
+            }
+        }
     }
 }

@@ -6,14 +6,16 @@ use native.Mathlib.Omega.{arith}
 use contract.Lifetimes.{Lfts}
 use borrow.Fn.Kinds.{Dens}
 use denote.Ref.{now}
-use Rattle.numbers.specs.Answer.{answered, refused}
+use Rattle.numbers.specs.Answer.{answered, refused, both, neither}
 use Rattle.numbers.specs.Settled.{Settles, settled}
 use Rattle.words.proofs.Once.{refusal-one}
 use Rattle.registers.specs.State.{st}
 use Rattle.reader.specs.ListVerdict.{verdict}
-use Rattle.reader.specs.Read.{told, readAnswer, readState}
+use Rattle.reader.specs.Read.{told, toldBoth, readAnswers, readState}
 use Rattle.reader.specs.declared.ListVerdict.{ListVerdict}
 use Rattle.reader.specs.declared.ListVerdict.the-variants.{Accepted, Refused}
+use Rattle.reader.specs.declared.Reading.{Reading}
+use Rattle.reader.specs.declared.Reading.the-variants as reading
 use Rattle.reader.proofs.judge_list.Reads as judge-list
 use Rattle.reader.proofs.judge_list.Kinds as judge-list-kinds
 use Rattle.reader.proofs.read.Reads as read
@@ -26,6 +28,16 @@ told-one (Accepted n) (Refused r) e = let z : _≡_ {A = ℕ} 0 1 = cc in absurd
 told-one (Refused r) (Accepted m) e = let z : _≡_ {A = ℕ} 0 1 = cc in absurd (omega arith)
 told-one (Refused r) (Refused q) e = ap Refused (refusal-one r q (cc) (cc))
 
+-- nor do two readings
+pub both-one : (a b : Reading) → toldBoth a ≡ toldBoth b → a ≡ b
+both-one (reading.Accepted c) (reading.Accepted d) e =
+    let w : c .writes ≡ d .writes = cc in
+    let n : c .differences ≡ d .differences = cc in
+    ap reading.Accepted (rw (w, n))
+both-one (reading.Accepted c) (reading.Refused r) e = let z : _≡_ {A = ℕ} 0 1 = cc in absurd (omega arith)
+both-one (reading.Refused r) (reading.Accepted c) e = let z : _≡_ {A = ℕ} 0 1 = cc in absurd (omega arith)
+both-one (reading.Refused r) (reading.Refused q) e = ap reading.Refused (refusal-one r q (cc) (cc))
+
 pub judge-list-settled : (κs : Lfts 1) (a : Dens κs judge-list-kinds.ps) → Settles (λ e. tt {0}) (judge-list.Post κs a)
 judge-list-settled κs a = settled _ _ told told-one (verdict (now (a .0))) tt (λ r e p. (p, refl))
 
@@ -34,4 +46,4 @@ pub read-settled : (κs : Lfts 4) (a : Dens κs read-kinds.ps)
 read-settled κs a =
     let s = st (now (a .0)) (now (a .1 .0)) (now (a .1 .1 .0)) in
     let l = now (a .1 .1 .1 .0) in
-    settled _ _ told told-one (readAnswer s l) (readState s l) (λ r e p. p)
+    settled _ _ toldBoth both-one (readAnswers s l) (readState s l) (λ r e p. p)

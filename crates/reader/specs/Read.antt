@@ -11,14 +11,14 @@ use Rattle.registers.specs.State.{State, sized}
 use Rattle.registers.specs.Applied.{applyAll, differences}
 use Rattle.reader.specs.ListVerdict.{verdict}
 use Rattle.reader.specs.declared.ListVerdict.{ListVerdict}
-use Rattle.reader.specs.declared.ListVerdict.the-variants as verdict
+use Rattle.reader.specs.declared.ListVerdict.the-variants as judged
 use Rattle.reader.specs.declared.Reading.{Reading}
 use Rattle.reader.specs.declared.Reading.the-variants as reading
 
--- the document's number and values for each case of a verdict on a list, which is lent no state
+-- the document's number and values for each case of a verdict on a list alone
 abbrev pub told : ListVerdict → Answer
-told (verdict.Accepted n) = answered n
-told (verdict.Refused r) = refused (r .number) (r .place)
+told (judged.Accepted n) = answered n
+told (judged.Refused r) = refused (r .number) (r .place)
 
 -- and of what a reading answers: the number of writes, and how many of them made a difference; or the refusal
 abbrev pub toldBoth : Reading → Answers
@@ -29,7 +29,7 @@ toldBoth (reading.Refused r) = neither (r .number) (r .place)
 unfoldable pub readAnswer : State → List ℕ → Answer
 readAnswer s l = pick (sized s) (pick (leb (length l) 65536) (verdict l) (refused 1 0)) (refused 6 0)
 
--- the second number is the count over the expansion, each write judged on the state left by those before it; a refused list gives neither
+-- the second number is the count over the expansion, each write judged on the state left by those before it; a refusal gives neither
 unfoldable pub readAnswers : State → List ℕ → Answers
 readAnswers s l = besides (readAnswer s l) (differences s (expansion l))
 

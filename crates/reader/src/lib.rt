@@ -1,19 +1,33 @@
-// A list read into a state: judged whole, and then applied. The contracts cite specs/ListVerdict.antt and specs/Read.antt.
+// A list read into a state: judged whole, and then applied, with its writes that made a difference counted on the way. The contracts cite
+// specs/ListVerdict.antt and specs/Read.antt.
 ghost use mathlib.Core.Path.{_≡_};
 ghost use mathlib.Core.Bool.{true};
-ghost use Prim.Native.Nat.{_+_, _<_};
+ghost use Prim.Native.Nat.{_+_, _<_, _≤_};
+ghost use lib.ListN.{length};
 ghost use Rattle.numbers.specs.Pick.{pick};
 ghost use Rattle.words.specs.Commands.{expansion, wellFormed};
 ghost use Rattle.registers.specs.State.{st, Lengths};
-ghost use Rattle.registers.specs.Applied.{applyAll};
+ghost use Rattle.registers.specs.Applied.{applyAll, differences};
 ghost use Rattle.commands.specs.Clear.{lastId, clear};
 ghost use Rattle.reader.specs.ListVerdict.{verdict};
-ghost use Rattle.reader.specs.Read.{told, readAnswer, readState};
+ghost use Rattle.reader.specs.Read.{told, toldBoth, readAnswers, readState};
 use words::Head;
 use words::Refusal;
 
+// On a list alone: the number of its writes, or the refusal.
 pub enum ListVerdict {
     Accepted(usize),
+    Refused(Refusal),
+}
+
+// Of a list that was read: the number of its writes, and how many of them made a difference.
+pub struct Counts {
+    pub writes: usize,
+    pub differences: u32,
+}
+
+pub enum Reading {
+    Accepted(Counts),
     Refused(Refusal),
 }
 
@@ -61,10 +75,13 @@ pub fn judge_list(list: &[u32]) -> ListVerdict
     }
 }
 
-// A well-formed list's expansion, one masked write after another.
-fn apply_list(cells: &mut [u32], fog: &mut [u32], light: &mut [u32], list: &[u32])
-    requires { ⌜ Lengths (now cells) (now fog) (now light) × (wellFormed (now list) ≡ true) ⌝ }
-    ensures { λ _. ⌜
+// A well-formed list's expansion, one masked write after another: how many writes made a difference.
+fn apply_list(cells: &mut [u32], fog: &mut [u32], light: &mut [u32], list: &[u32]) -> u32
+    requires { ⌜ Lengths (now cells) (now fog) (now light) × (wellFormed (now list) ≡ true) × (length (now list) ≤ 65536) ⌝ }
+    ensures count { λ r. ⌜
+        r ≡ differences (st (now (cells .entry)) (now (fog .entry)) (now (light .entry))) (expansion (now (list .entry)))
+        ⌝ }
+    ensures state { λ _. ⌜
         st (now (cells .exit)) (now (fog .exit)) (now (light .exit))
         ≡ applyAll (st (now (cells .entry)) (now (fog .entry)) (now (light .entry))) (expansion (now (list .entry)))
         ⌝ }
@@ -72,38 +89,47 @@ fn apply_list(cells: &mut [u32], fog: &mut [u32], light: &mut [u32], list: &[u32
     let slots = registers::held::slot_table();
     let held = registers::held::held_table();
     let mut at = 0;
+    let mut n: u32 = 0;
     while at < list.len() {
         let h = words::parts(list[at + 1]);
         let taken = words::words_taken(h);
-        commands::apply_run(cells, fog, light, &slots, &held, h, list[at], list, at + 2);
+        n += commands::apply_run(cells, fog, light, &slots, &held, h, list[at], list, at + 2);
         at += taken;
     }
+    n
 }
 
-// A list read into a state: the number of its writes, or a refusal, 6 before 1 before the verdict's; a refused list changes nothing.
-pub fn read(cells: &mut [u32], fog: &mut [u32], light: &mut [u32], list: &[u32]) -> ListVerdict
-    ensures answer { λ r. ⌜ told r ≡ readAnswer (st (now (cells .entry)) (now (fog .entry)) (now (light .entry))) (now (list .entry)) ⌝ }
+// A list read into a state: the number of its writes and how many of them made a difference, or a refusal, 6 before 1 before the verdict's;
+// a refused list changes nothing.
+pub fn read(cells: &mut [u32], fog: &mut [u32], light: &mut [u32], list: &[u32]) -> Reading
+    ensures answer { λ r. ⌜
+        toldBoth r ≡ readAnswers (st (now (cells .entry)) (now (fog .entry)) (now (light .entry))) (now (list .entry))
+        ⌝ }
     ensures state { λ _. ⌜
         st (now (cells .exit)) (now (fog .exit)) (now (light .exit))
         ≡ readState (st (now (cells .entry)) (now (fog .entry)) (now (light .entry))) (now (list .entry))
         ⌝ }
 {
     if !registers::is_sized(cells, fog, light) {
-        return ListVerdict::Refused(Refusal {
+        return Reading::Refused(Refusal {
             number: words::BUFFER_LENGTH,
             place: 0,
         });
     }
     if 65536 < list.len() {
-        return ListVerdict::Refused(Refusal {
+        return Reading::Refused(Refusal {
             number: words::LIST_TOO_LONG,
             place: 0,
         });
     }
-    let verdict = judge_list(list);
-    let ListVerdict::Accepted(n) = verdict else {
-        return verdict;
-    };
-    apply_list(cells, fog, light, list);
-    ListVerdict::Accepted(n)
+    match judge_list(list) {
+        ListVerdict::Refused(why) => Reading::Refused(why),
+        ListVerdict::Accepted(writes) => {
+            let differences = apply_list(cells, fog, light, list);
+            Reading::Accepted(Counts {
+                writes,
+                differences,
+            })
+        }
+    }
 }

@@ -12,21 +12,21 @@ use lib.Seq.{getD-set-same, getD-set-other, set-set, set-out}
 use borrow.Author.Tests.{ne-eqb}
 use Rattle.numbers.specs.Pick.{pick}
 use Rattle.numbers.specs.Bits.{bit, spread, merge, pickBit}
-use Rattle.numbers.specs.Answer.{Answer, refused}
+use Rattle.numbers.specs.Answer.{Answer, answered, refused, unlessFault}
 use Rattle.numbers.proofs.Merge.{and-bit, merge-bit, merge-twice, spread-bit}
 use Rattle.words.specs.Writes.{Write, fogData, lightData}
 use Rattle.registers.specs.State.{State, st}
 use Rattle.registers.specs.Held.{bitsOf}
-use Rattle.registers.specs.Applied.{cellsAfter, put, apply}
-use Rattle.registers.specs.Single.{refusalOf, atZero, unless, writeAnswer, writeState}
+use Rattle.registers.specs.Applied.{cellsAfter, put, apply, difference}
+use Rattle.registers.specs.Single.{refusalOf, unless, writeAnswer, writeState}
 
 -- A WRITE THAT IS REFUSED CHANGES NOTHING
-keeps : (f n p : ℕ) (changed kept : State) → atZero f ≡ refused n p → unless f changed kept ≡ kept
-keeps zero n p changed kept e = absurd (let z : _≡_ {A = ℕ} 0 1 = cc in omega arith)
-keeps (suc f) n p changed kept e = refl
+keeps : (f d n p : ℕ) (changed kept : State) → unlessFault f 0 (answered d) ≡ refused n p → unless f changed kept ≡ kept
+keeps zero d n p changed kept e = absurd (let z : _≡_ {A = ℕ} 0 1 = cc in omega arith)
+keeps (suc f) d n p changed kept e = refl
 
 pub refused-keeps : (s : State) (w : Write) (n p : ℕ) → writeAnswer s w ≡ refused n p → writeState s w ≡ s
-refused-keeps s w n p e = keeps (refusalOf s w) n p (apply s w) s e
+refused-keeps s w n p e = keeps (refusalOf s w) (difference s w) n p (apply s w) s e
 
 -- what a write to an id that is no port's data leaves
 pub beside-ports : (s : State) (i e v : ℕ) → fogData i ≡ false → lightData i ≡ false

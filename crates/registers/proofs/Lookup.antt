@@ -9,7 +9,7 @@ use native.Mathlib.Decide.{decLt}
 use native.Mathlib.Omega.{arith}
 use lib.Dec.{eqb, ltb}
 use lib.ListN.{getD, replicate, length-replicate}
-use borrow.Author.Tests.{eq-eqb, ne-eqb, ltb-true, eqb-true, not-true}
+use borrow.Author.Tests.{eq-eqb, ne-eqb, ltb-true, eqb-true, eqb-false, not-true}
 use Rattle.numbers.specs.Pick.{pick}
 use Rattle.numbers.proofs.Tests.{is-true, and-true}
 use Rattle.numbers.proofs.Table.{at}
@@ -24,9 +24,11 @@ idAt k = getD heldTable (2 * getD slotTable (k % 256) 0) 0
 abbrev pub bitsAt : ℕ → ℕ
 bitsAt k = getD heldTable (2 * getD slotTable (k % 256) 0 + 1) 0
 
--- a row of k has the bits of k, and k is no port's data; else k holds none
+-- a row of k has the bits of k, which are some, and k is no port's data; else k holds none
 right : ℕ → Bool
-right k = pick (eqb (idAt k) k) (eqb (bitsAt k) (bitsOf k) && not (fogData k) && not (lightData k)) (eqb (bitsOf k) 0)
+right k =
+    pick (eqb (idAt k) k) (eqb (bitsAt k) (bitsOf k) && not (eqb (bitsOf k) 0) && not (fogData k) && not (lightData k))
+    (eqb (bitsOf k) 0)
 
 rule : (k : ℕ) → k < 768 → right k ≡ true
 unfolding right slotTable heldTable rowWords bitsOf bitsIn rowIn held
@@ -43,21 +45,29 @@ id-small j h =
     ltb-true (getD heldTable (2 * getD slotTable j 0) 0) 768 (is-true _ (at (λ _ r. ltb (getD heldTable (2 * r) 0) 768) slotTable tt j h))
 
 pub record Has (k : ℕ) : Type 0 where
+  pub some : bitsOf k ≡ 0 → ⊥
   pub small : k < 768
   pub noFog : fogData k ≡ false
   pub noLight : lightData k ≡ false
 
 -- a row whose id is k has the bits of k
-row-right : (k : ℕ) → idAt k ≡ k → (bitsAt k ≡ bitsOf k) × Has k
+pub row-right : (k : ℕ) → idAt k ≡ k → (bitsAt k ≡ bitsOf k) × Has k
 unfolding right
 row-right k e =
     let l : k < 768 = omega (arith, e, id-small (k % 256) (omega arith)) in
     let B = eqb (bitsAt k) (bitsOf k) in
+    let S = not (eqb (bitsOf k) 0) in
     let F = not (fogData k) in
-    let p = and-true (B && F) (not (lightData k)) (rw (eq-eqb (idAt k) k e) at (rule k l)) in
-    let q = and-true B F (p .0) in (
-      eqb-true (bitsAt k) (bitsOf k) (q .0),
-      record { small = l; noFog = not-true (fogData k) (q .1); noLight = not-true (lightData k) (p .1) },
+    let p = and-true (B && S && F) (not (lightData k)) (rw (eq-eqb (idAt k) k e) at (rule k l)) in
+    let q = and-true (B && S) F (p .0) in
+    let r = and-true B S (q .0) in (
+      eqb-true (bitsAt k) (bitsOf k) (r .0),
+      record {
+        some = eqb-false (bitsOf k) 0 (not-true (eqb (bitsOf k) 0) (r .1));
+        small = l;
+        noFog = not-true (fogData k) (q .1);
+        noLight = not-true (lightData k) (p .1);
+      },
     )
 
 pub row-bits : (k : ℕ) → idAt k ≡ k → bitsAt k ≡ bitsOf k

@@ -1,18 +1,21 @@
 -- The promise of each function that another crate can call settles its calls: any two answers that it allows, with what is then in the lent
 -- buffers, are equal. Assumes nothing.
 use mathlib.Core.Path.{_≡_, refl, ap}
-use Prim.Native.Nat.{ℕ}
+use mathlib.Core.Bool.{Bool, true, false, not}
+use Prim.Native.Nat.{ℕ, _+_}
 use native.Mathlib.Omega.{arith}
 use contract.Lifetimes.{Lfts}
 use borrow.Fn.Kinds.{Dens}
 use denote.Ref.{now}
+use lib.Dec.{eqb}
+use Rattle.numbers.specs.Pick.{pick}
 use Rattle.numbers.specs.Settled.{Settles, settled}
 use Rattle.words.specs.Writes.{writing}
 use Rattle.words.proofs.Once.{refusal-one}
 use Rattle.registers.specs.Held.{bitsOf}
 use Rattle.registers.specs.State.{st, sized}
 use Rattle.registers.specs.Tables.{slotTable, heldTable}
-use Rattle.registers.specs.Applied.{put}
+use Rattle.registers.specs.Applied.{put, differs}
 use Rattle.registers.specs.Single.{told, writeAnswer, writeState}
 use Rattle.registers.specs.declared.Written.{Written}
 use Rattle.registers.specs.declared.Written.the-variants.{Done, Refused}
@@ -20,6 +23,8 @@ use Rattle.registers.proofs.is_sized.Reads as is-sized
 use Rattle.registers.proofs.is_sized.Kinds as is-sized-kinds
 use Rattle.registers.proofs.bits_held.Reads as bits-held
 use Rattle.registers.proofs.bits_held.Kinds as bits-held-kinds
+use Rattle.registers.proofs.changed.Reads as changed
+use Rattle.registers.proofs.changed.Kinds as changed-kinds
 use Rattle.registers.proofs.put_one.Reads as put-one
 use Rattle.registers.proofs.put_one.Kinds as put-one-kinds
 use Rattle.registers.proofs.held.slot_table.Reads as slot-table
@@ -29,11 +34,17 @@ use Rattle.registers.proofs.held.held_table.Kinds as held-table-kinds
 use Rattle.registers.proofs.write.Reads as write
 use Rattle.registers.proofs.write.Kinds as write-kinds
 
+one-bit : (a b : Bool) → _≡_ {A = ℕ} (pick a 1 0) (pick b 1 0) → a ≡ b
+one-bit true true e = refl
+one-bit true false e = absurd (omega arith)
+one-bit false true e = absurd (omega arith)
+one-bit false false e = refl
+
 -- no two answers of a single write mean the same
 pub told-one : (a b : Written) → told a ≡ told b → a ≡ b
-told-one Done Done e = refl
-told-one Done (Refused r) e = let z : _≡_ {A = ℕ} 0 1 = cc in absurd (omega arith)
-told-one (Refused r) Done e = let z : _≡_ {A = ℕ} 0 1 = cc in absurd (omega arith)
+told-one (Done a) (Done b) e = ap Done (one-bit a b (cc))
+told-one (Done a) (Refused r) e = let z : _≡_ {A = ℕ} 0 1 = cc in absurd (omega arith)
+told-one (Refused r) (Done b) e = let z : _≡_ {A = ℕ} 0 1 = cc in absurd (omega arith)
 told-one (Refused r) (Refused q) e = ap Refused (refusal-one r q (cc) (cc))
 
 pub write-settled : (κs : Lfts 3) (a : Dens κs write-kinds.ps)
@@ -57,9 +68,16 @@ held-table-settled κs a = settled _ _ (λ r. r) (λ r r′ e. e) heldTable tt (
 pub put-one-settled : (κs : Lfts 5) (a : Dens κs put-one-kinds.ps)
     → Settles (λ e. st (now (e .0)) (now (e .1 .0)) (now (e .1 .1 .0))) (put-one.Post κs a)
 put-one-settled κs a =
-    settled _ _ (λ r. r) (λ r r′ e. e) tt
-    (put (st (now (a .0)) (now (a .1 .0)) (now (a .1 .1 .0))) (a .1 .1 .1 .1 .1 .0) (a .1 .1 .1 .1 .1 .1 .0) (a .1 .1 .1 .1 .1 .1 .1 .0))
-    (λ r e p. (refl, p))
+    let s = st (now (a .0)) (now (a .1 .0)) (now (a .1 .1 .0)) in
+    let id = a .1 .1 .1 .1 .1 .0 in
+    let bytes = a .1 .1 .1 .1 .1 .1 .0 in
+    let value = a .1 .1 .1 .1 .1 .1 .1 .0 in
+    let n = a .1 .1 .1 .1 .1 .1 .1 .1 .0 in
+    settled _ _ (λ r. r) (λ r r′ e. e) (n + pick (differs s id bytes value) 1 0) (put s id bytes value) (λ r e p. (p .0 .0, p .1))
+
+pub changed-settled : (κs : Lfts 0) (a : Dens κs changed-kinds.ps) → Settles (λ e. tt {0}) (changed.Post κs a)
+changed-settled κs a =
+    settled _ _ (λ r. r) (λ r r′ e. e) (pick (not (eqb (a .1 .0) (a .0))) 1 0) tt (λ r e p. (p .0, refl))
 
 pub bits-held-settled : (κs : Lfts 2) (a : Dens κs bits-held-kinds.ps) → Settles (λ e. tt {0}) (bits-held.Post κs a)
 bits-held-settled κs a = settled _ _ (λ r. r) (λ r r′ e. e) (bitsOf (a .1 .1 .0)) tt (λ r e p. (p, refl))

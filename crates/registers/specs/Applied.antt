@@ -33,7 +33,7 @@ unfoldable pub applyAll : State → List Write → State
 applyAll s [] = s
 applyAll s (w ∷ ws) = applyAll (apply s w) ws
 
--- the cell, entry or index that the value v touches, written to i in the bytes e, differs afterwards: port data counts always, since its
+-- does the cell, entry or index that is touched by writing v to i, in the bytes e, differ afterwards? Port data counts always, since its
 -- index always moves; of any other write the cell tells
 unfoldable pub differs : State → ℕ → ℕ → ℕ → Bool
 differs s i e v =

@@ -2,7 +2,7 @@
 use Prim.Native.Nat.{ℕ, zero, suc}
 use lib.Dec.{ltb}
 use Rattle.numbers.specs.Pick.{pick}
-use Rattle.numbers.specs.Answer.{Answer, answered, refused}
+use Rattle.numbers.specs.Answer.{Answer, answered, refused, unlessFault}
 use Rattle.words.specs.Writes.{Write, faultOf}
 use Rattle.registers.specs.State.{State, sized}
 use Rattle.registers.specs.Applied.{apply, difference}
@@ -18,17 +18,12 @@ told (Refused r) = refused (r .number) (r .place)
 unfoldable pub refusalOf : State → Write → ℕ
 refusalOf s w = pick (sized s) (pick (ltb 15 (w .mask)) 9 (faultOf (w .id) (w .mask))) 6
 
--- a refusal's place is 0; a write that isn't refused answers d
-abbrev pub atZero : ℕ → ℕ → Answer
-atZero zero d = answered d
-atZero (suc n) d = refused (suc n) 0
-
 abbrev pub unless : ℕ → State → State → State
 unless zero changed kept = changed
 unless (suc n) changed kept = kept
 
 abbrev pub writeAnswer : State → Write → Answer
-writeAnswer s w = atZero (refusalOf s w) (difference s w)
+writeAnswer s w = unlessFault (refusalOf s w) 0 (answered (difference s w))
 
 abbrev pub writeState : State → Write → State
 writeState s w = unless (refusalOf s w) (apply s w) s

@@ -1,11 +1,16 @@
-// What one write does to a state of three lent buffers. The contracts cite specs/Applied.antt and specs/Single.antt.
+// What one write does to a state of three lent buffers, and whether it made a difference. The contracts cite specs/Applied.antt and
+// specs/Single.antt.
 ghost use mathlib.Core.Path.{_≡_};
-ghost use Prim.Native.Nat.{_%_, _<_};
+ghost use mathlib.Core.Bool.{not};
+ghost use Prim.Native.Nat.{_+_, _*_, _%_, _<_, _≤_};
+ghost use lib.Dec.{eqb};
+ghost use lib.ListN.{getD};
+ghost use Rattle.numbers.specs.Pick.{pick};
 ghost use Rattle.words.specs.Writes.{writing};
 ghost use Rattle.registers.specs.State.{st, sized, Lengths};
 ghost use Rattle.registers.specs.Held.{bitsOf};
-ghost use Rattle.registers.specs.Tables.{LookupTables};
-ghost use Rattle.registers.specs.Applied.{put};
+ghost use Rattle.registers.specs.Tables.{slotTable, LookupTables};
+ghost use Rattle.registers.specs.Applied.{put, differs};
 ghost use Rattle.registers.specs.Single.{told, writeAnswer, writeState};
 use words::Refusal;
 
@@ -24,20 +29,32 @@ fn low_byte(id: u32) -> usize
     (id % 256) as usize
 }
 
-// The bits that the register `id` holds, 0 where it isn't held: one row of the table can be its row.
+// Where the one row of the held table stands that can be the row of `id`.
+fn row_for(slots: &[u8; 256], id: u32) -> usize
+    requires { ⌜ now slots ≡ slotTable ⌝ }
+    ensures { λ r. ⌜ (r ≡ 2 * getD slotTable (id % 256) 0) × (r < 131) ⌝ }
+{
+    2 * wide(slots[low_byte(id)])
+}
+
+// The bits that the register `id` holds, 0 where it isn't held.
 pub fn bits_held(slots: &[u8; 256], held: &[u32; 132], id: u32) -> u32
     requires { ⌜ LookupTables (now slots) (now held) ⌝ }
     ensures { λ r. ⌜ r ≡ bitsOf id ⌝ }
 {
-    let slot = wide(slots[low_byte(id)]);
-    if held[2 * slot] == id {
-        held[2 * slot + 1]
-    } else {
-        0
-    }
+    let row = row_for(slots, id);
+    if held[row] == id { held[row + 1] } else { 0 }
 }
 
-// One write, of the bytes of `bytes`: held registers first, which are most.
+// 1 where a word is another than it was, else 0.
+pub fn changed(old: u32, new: u32) -> u32
+    ensures { λ r. ⌜ (r ≡ pick (not (eqb new old)) 1 0) × (r ≤ 1) ⌝ }
+{
+    if new == old { 0 } else { 1 }
+}
+
+// One write, of the bytes of `bytes`, and `n`, one more where it made a difference: held registers first, which are most. Counted here, and
+// not by the caller, so that a write to an id that isn't held adds nothing, not even 0.
 pub fn put_one(
     cells: &mut [u32],
     fog: &mut [u32],
@@ -47,26 +64,34 @@ pub fn put_one(
     id: u32,
     bytes: u32,
     value: u32,
-)
-    requires { ⌜ Lengths (now cells) (now fog) (now light) × LookupTables (now slots) (now held) ⌝ }
-    ensures { λ _. ⌜
+    n: u32,
+) -> u32
+    requires { ⌜ Lengths (now cells) (now fog) (now light) × LookupTables (now slots) (now held) × (n < 0xFFFFFFFF) ⌝ }
+    ensures count { λ r. ⌜
+        (r ≡ n + pick (differs (st (now (cells .entry)) (now (fog .entry)) (now (light .entry))) id bytes value) 1 0) × (r ≤ n + 1)
+        ⌝ }
+    ensures state { λ _. ⌜
         st (now (cells .exit)) (now (fog .exit)) (now (light .exit))
         ≡ put (st (now (cells .entry)) (now (fog .entry)) (now (light .entry))) id bytes value
         ⌝ }
 {
-    let bits = bits_held(slots, held, id);
-    if bits != 0 {
+    let row = row_for(slots, id);
+    if held[row] == id {
         let i = id as usize;
-        cells[i] = ports::merged(bits & bytes, cells[i], value);
-        return;
+        let old = cells[i];
+        let new = ports::merged(held[row + 1] & bytes, old, value);
+        cells[i] = new;
+        return n + changed(old, new);
     }
     if (0xE8 <= id) & (id <= 0xEF) {
         ports::put_fog(cells, fog, value);
-        return;
+        return n + 1;
     }
     if (0x1C8 <= id) & (id <= 0x1CF) {
         ports::put_light(cells, light, value);
+        return n + 1;
     }
+    n
 }
 
 // The three buffers have a state's lengths.
@@ -77,11 +102,13 @@ pub fn is_sized(cells: &[u32], fog: &[u32], light: &[u32]) -> bool
 }
 
 pub enum Written {
-    Done,
+    // whether it made a difference
+    Done(bool),
     Refused(Refusal),
 }
 
-// One write applied to a state, or refused with 6, 9, 3, 4 or 5, in this order, at place 0; a refusal changes nothing.
+// One write applied to a state, and whether it made a difference; or refused with 6, 9, 3, 4 or 5, in this order, at place 0, and then
+// nothing changes.
 pub fn write(
     cells: &mut [u32],
     fog: &mut [u32],
@@ -119,15 +146,7 @@ pub fn write(
     }
     let slots = held::slot_table();
     let held = held::held_table();
-    put_one(
-        cells,
-        fog,
-        light,
-        &slots,
-        &held,
-        id,
-        ports::spread_mask(mask),
-        value,
-    );
-    Written::Done
+    let bytes = ports::spread_mask(mask);
+    let difference = put_one(cells, fog, light, &slots, &held, id, bytes, value, 0);
+    Written::Done(difference != 0)
 }

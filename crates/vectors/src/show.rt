@@ -1,8 +1,8 @@
 // How a vector is shown: its label with the answer's line, and then what some cells or entries hold after it was read into
 // a state of zeros.
 use libc::STDOUT_FILENO;
+use parts::Progress;
 use pieces::Going;
-use pieces::Progress;
 use reader::ListVerdict;
 use words::Refusal;
 

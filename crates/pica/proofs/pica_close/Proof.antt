@@ -44,12 +44,17 @@ same-length-6 c = search needs
 
 returns : tie.Need-returns
 returns c =
-    let laid = c .before .before .before .before in
+    let at-verdict = c .before .before .before in
+    let laid = at-verdict .before .before in
     let closed = laid .before .before .before .before .before .before .before .before .before .before .before .before .before in
     let p = closed .before .before .before .before .before .before .before .progress-of .ensures in
-    let r = closed .close .ensures in (
-      rw (← p, ← r .0, c .before .before .verdict .given .1, c .told .ensures),
-      (rw (← p, laid .words-of .ensures, r .1 .0), (rw (← p) (r .1 .1 .0), rw (← p) (r .1 .1 .1))),
+    let r = closed .close .ensures in
+    let e = at-verdict .verdict .given .1 in (
+      rw (← p, ← r .0, e, c .told .ensures),
+      (
+        rw (← p, ← r .0, e),
+        (rw (← p, laid .words-of .ensures, r .1 .0), (rw (← p) (r .1 .1 .0), rw (← p) (r .1 .1 .1))),
+      ),
     )
 
 same-length-7 : tie.Need-same-length-7
@@ -72,12 +77,17 @@ same-length-12 c = search needs
 
 returns-2 : tie.Need-returns-2
 returns-2 c =
-    let laid = c .before .before .before .before in
+    let at-verdict = c .before .before in
+    let laid = at-verdict .before .before in
     let closed = laid .before .before .before .before .before .before .before .before .before .before .before .before .before in
     let p = closed .before .before .before .before .before .before .before .progress-of .ensures in
-    let r = closed .close .ensures in (
-      rw (← p, ← r .0, c .before .before .verdict2 .given .1, c .told2 .ensures),
-      (rw (← p, laid .words-of .ensures, r .1 .0), (rw (← p) (r .1 .1 .0), rw (← p) (r .1 .1 .1))),
+    let r = closed .close .ensures in
+    let e = at-verdict .verdict2 .given .1 in (
+      rw (← p, ← r .0, e, c .told2 .ensures),
+      (
+        rw (← p, ← r .0, e),
+        (rw (← p, laid .words-of .ensures, r .1 .0), (rw (← p) (r .1 .1 .0), rw (← p) (r .1 .1 .1))),
+      ),
     )
 
 pub pica-close-spec : {M : Type 1} → statement M

@@ -6,8 +6,8 @@ use Rattle.pica.proofs.pica_read.Tie as tie
 read-requires : tie.Need-read-requires
 read-requires c κs = search needs
 
-enum-known-n : tie.Need-enum-known-n
-enum-known-n c = search needs
+enum-known-counts : tie.Need-enum-known-counts
+enum-known-counts c = search needs
 
 told-requires : tie.Need-told-requires
 told-requires c κs = search needs
@@ -29,8 +29,10 @@ same-length-3 c = search needs
 
 returns : tie.Need-returns
 returns c =
-    let r = c .before .before .before .before .before .before .before .before .before .before .read in
-    (rw (← r .ensures .0, c .before .before .n .given .1, c .told .ensures), r .ensures .1)
+    let at-counts = c .before .before .before in
+    let r = at-counts .before .before .before .before .before .before .before .before .read in
+    let e = at-counts .counts .given .1 in
+    (rw (← r .ensures .0, e, c .told .ensures), (rw (← r .ensures .0, e), r .ensures .1))
 
 same-length-4 : tie.Need-same-length-4
 same-length-4 c = search needs
@@ -43,15 +45,17 @@ same-length-6 c = search needs
 
 returns-2 : tie.Need-returns-2
 returns-2 c =
-    let r = c .before .before .before .before .before .before .before .before .before .before .read in
-    (rw (← r .ensures .0, c .before .before .why .given .1, c .told2 .ensures), r .ensures .1)
+    let at-why = c .before .before in
+    let r = at-why .before .before .before .before .before .before .before .before .read in
+    let e = at-why .why .given .1 in
+    (rw (← r .ensures .0, e, c .told2 .ensures), (rw (← r .ensures .0, e), r .ensures .1))
 
 pub pica-read-spec : {M : Type 1} → statement M
 pica-read-spec =
     tie.close
     (tie.spec
     read-requires
-    enum-known-n
+    enum-known-counts
     told-requires
     enum-known-why
     told-requires-2

@@ -73,21 +73,18 @@ returns-2 c =
     let w = c .wrong-length2 .ensures in
     (w .0 ∙ r .0, (w .1 ∙ r .1, (r .2, r .3)))
 
-verdict-so-far-requires : tie.Need-verdict-so-far-requires
-verdict-so-far-requires c κs = search needs
-
 fresh-progress-requires : tie.Need-fresh-progress-requires
 fresh-progress-requires c κs = search needs
 
-enum-known-verdict : tie.Need-enum-known-verdict
-enum-known-verdict c = search needs
+verdict-so-far-requires : tie.Need-verdict-so-far-requires
+verdict-so-far-requires c κs = search needs
 
-enum-told : tie.Need-enum-told
-enum-told c = search needs
+enum-known-why : tie.Need-enum-known-why
+enum-known-why c = search needs
 
 take-state-requires : tie.Need-take-state-requires
 take-state-requires c κs =
-    let at-if2 = c .before .before .before .before .before .before .before .before .before .before in
+    let at-if2 = c .before .before .before .before .before .before .before .before .before .before .before in
     let at-is-sized2 = at-if2 .before in
     let at-if1 = at-is-sized2 .before .before .before .before in
     let at-is-sized = at-if1 .before in
@@ -97,6 +94,23 @@ take-state-requires c κs =
     let t = st (a .spare-cells .now) (a .spare-fog .now) (a .spare-light .now) in (
       lengths t (sym (at-is-sized2 .is-sized2 .ensures) ∙ not-false _ (at-if2 .if2 .left)),
       lengths s (sym (at-is-sized .is-sized .ensures) ∙ not-false _ (at-if1 .if1 .left)),
+    )
+
+enum-known-writes : tie.Need-enum-known-writes
+enum-known-writes c = search needs
+
+take-state-requires-2 : tie.Need-take-state-requires-2
+take-state-requires-2 c κs =
+    let at-if2 = c .before .before .before .before .before .before .before .before .before .before .before in
+    let at-is-sized2 = at-if2 .before in
+    let at-if1 = at-is-sized2 .before .before .before .before in
+    let at-is-sized = at-if1 .before in
+    let at-start = at-is-sized .before .before .before .before .before .before .before .before .before .before in
+    let a = at-start .args in
+    let s = st (a .cells .now) (a .fog .now) (a .light .now) in
+    let t = st (a .spare-cells .now) (a .spare-fog .now) (a .spare-light .now) in (
+      lengths s (sym (at-is-sized .is-sized .ensures) ∙ not-false _ (at-if1 .if1 .left)),
+      lengths t (sym (at-is-sized2 .is-sized2 .ensures) ∙ not-false _ (at-if2 .if2 .left)),
     )
 
 same-length-10 : tie.Need-same-length-10
@@ -120,10 +134,10 @@ same-length-15 c = search needs
 returns-3 : tie.Need-returns-3
 returns-3 c =
     let at-take-state = c .before .before .before .before .before .before in
-    let at-enum-told = at-take-state .before .before .before .before .before .before .before in
-    let at-fresh-progress = at-enum-told .before .before in
-    let at-verdict-so-far = at-fresh-progress .before in
-    let at-if2 = at-verdict-so-far .before in
+    let at-why = at-take-state .before .before .before .before .before .before .before .before in
+    let at-verdict-so-far = at-why .before .before in
+    let at-fresh-progress = at-verdict-so-far .before in
+    let at-if2 = at-fresh-progress .before in
     let at-is-sized2 = at-if2 .before in
     let at-if1 = at-is-sized2 .before .before .before .before in
     let at-is-sized = at-if1 .before in
@@ -133,23 +147,9 @@ returns-3 c =
     let t = st (a .spare-cells .now) (a .spare-fog .now) (a .spare-light .now) in
     let k = right-both s t (sym (at-is-sized .is-sized .ensures) ∙ not-false _ (at-if1 .if1 .left))
     (sym (at-is-sized2 .is-sized2 .ensures) ∙ not-false _ (at-if2 .if2 .left)) in
-    let given = ap told (at-enum-told .enum-told .given .1) in
-    let r = close-refused s t (a .p) _ _ k (sym given ∙ at-verdict-so-far .verdict-so-far .ensures) in
-    (given ∙ r .0, (at-fresh-progress .fresh-progress .ensures ∙ r .1, (r .2, at-take-state .take-state .ensures ∙ r .3)))
-
-take-state-requires-2 : tie.Need-take-state-requires-2
-take-state-requires-2 c κs =
-    let at-if2 = c .before .before .before .before .before .before .before .before .before .before .before in
-    let at-is-sized2 = at-if2 .before in
-    let at-if1 = at-is-sized2 .before .before .before .before in
-    let at-is-sized = at-if1 .before in
-    let at-start = at-is-sized .before .before .before .before .before .before .before .before .before .before in
-    let a = at-start .args in
-    let s = st (a .cells .now) (a .fog .now) (a .light .now) in
-    let t = st (a .spare-cells .now) (a .spare-fog .now) (a .spare-light .now) in (
-      lengths s (sym (at-is-sized .is-sized .ensures) ∙ not-false _ (at-if1 .if1 .left)),
-      lengths t (sym (at-is-sized2 .is-sized2 .ensures) ∙ not-false _ (at-if2 .if2 .left)),
-    )
+    let v = sym (ap told (at-why .why .given .1)) ∙ at-verdict-so-far .verdict-so-far .ensures in
+    let r = close-refused s t (a .p) _ _ k v in
+    (r .0, (at-fresh-progress .fresh-progress .ensures ∙ r .1, (r .2, at-take-state .take-state .ensures ∙ r .3)))
 
 same-length-16 : tie.Need-same-length-16
 same-length-16 c = search needs
@@ -172,10 +172,10 @@ same-length-21 c = search needs
 returns-4 : tie.Need-returns-4
 returns-4 c =
     let at-take-state2 = c .before .before .before .before .before .before in
-    let at-verdict = at-take-state2 .before .before .before .before .before .before .before .before in
-    let at-fresh-progress = at-verdict .before .before in
-    let at-verdict-so-far = at-fresh-progress .before in
-    let at-if2 = at-verdict-so-far .before in
+    let at-writes = at-take-state2 .before .before .before .before .before .before .before .before in
+    let at-verdict-so-far = at-writes .before .before in
+    let at-fresh-progress = at-verdict-so-far .before in
+    let at-if2 = at-fresh-progress .before in
     let at-is-sized2 = at-if2 .before in
     let at-if1 = at-is-sized2 .before .before .before .before in
     let at-is-sized = at-if1 .before in
@@ -185,7 +185,7 @@ returns-4 c =
     let t = st (a .spare-cells .now) (a .spare-fog .now) (a .spare-light .now) in
     let k = right-both s t (sym (at-is-sized .is-sized .ensures) ∙ not-false _ (at-if1 .if1 .left))
     (sym (at-is-sized2 .is-sized2 .ensures) ∙ not-false _ (at-if2 .if2 .left)) in
-    let v = sym (ap told (at-verdict .verdict .given .1)) ∙ at-verdict-so-far .verdict-so-far .ensures in
+    let v = sym (ap told (at-writes .writes .given .1)) ∙ at-verdict-so-far .verdict-so-far .ensures in
     let r = close-accepted s t (a .p) _ k v in
     (r .0, (at-fresh-progress .fresh-progress .ensures ∙ r .1, (at-take-state2 .take-state2 .ensures ∙ r .2, r .3)))
 
@@ -208,11 +208,12 @@ close-spec =
     same-length-8
     same-length-9
     returns-2
-    verdict-so-far-requires
     fresh-progress-requires
-    enum-known-verdict
-    enum-told
+    verdict-so-far-requires
+    enum-known-why
     take-state-requires
+    enum-known-writes
+    take-state-requires-2
     same-length-10
     same-length-11
     same-length-12
@@ -220,7 +221,6 @@ close-spec =
     same-length-14
     same-length-15
     returns-3
-    take-state-requires-2
     same-length-16
     same-length-17
     same-length-18

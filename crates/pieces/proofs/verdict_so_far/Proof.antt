@@ -1,6 +1,6 @@
 -- Each way out is one case of the close. Assumes nothing.
 use mathlib.Core.Path.{sym}
-use Rattle.pieces.proofs.Closing.{closes-long, closes-short, closes-accepted, closes-fault}
+use Rattle.parts.proofs.Closing.{closes-long, closes-short, closes-accepted, closes-fault}
 use borrow.Author.Needs.{needs}
 use Rattle.pieces.proofs.verdict_so_far.Statement.{statement}
 use Rattle.pieces.proofs.verdict_so_far.Tie as tie

@@ -1,28 +1,32 @@
--- The invariant: the commands that are left lead from here to the state that the whole list leads to, and each has its words.
--- Assumes nothing.
+-- The invariant: the commands that are left lead from here to the state that the whole list leads to, with what is counted so far, and each
+-- has its words. Assumes nothing.
 use mathlib.Core.Path.{_≡_, refl, sym, ap, _∙_}
 use mathlib.Core.Bool.{true}
-use Prim.Native.Nat.{_+_, _-_}
+use Prim.Native.Nat.{_+_, _-_, _≤_}
 use native.Mathlib.Omega.{arith}
 use borrow.Author.Needs.{needs}
 use lib.ListN.{length, getD}
 use Rattle.words.specs.Commands.{expand, commands, join, full}
 use Rattle.words.proofs.Laws.{expansion-of, formed-of}
 use Rattle.registers.specs.State.{st, Lengths}
-use Rattle.registers.specs.Applied.{applyAll}
+use Rattle.registers.specs.Applied.{applyAll, differences}
 use Rattle.commands.specs.Run.{runWith}
 use Rattle.commands.proofs.Runs.{expand-from}
-use Rattle.reader.proofs.Applying.{join-applied, join-applies, full-next}
+use Rattle.commands.proofs.Applying.{command-few}
+use Rattle.reader.proofs.Applying.{join-applied, join-applies, join-counted, join-counts, full-next}
 use Rattle.reader.proofs.apply_list.Statement.{statement}
 use Rattle.reader.proofs.apply_list.Tie as tie
 
 abbrev Inv-loop : tie.InvT-loop
-Inv-loop cells₀ fog₀ light₀ list slots held at₀ cells fog light at =
+Inv-loop cells₀ fog₀ light₀ list slots held at₀ n₀ cells fog light at n =
     Lengths cells fog light × (full list (commands list at) ≡ true)
     × (applyAll (st cells fog light) (join list (commands list at)) ≡ applyAll (st cells₀ fog₀ light₀) (join list (commands list 0)))
+    × (n ≤ at) × (at ≤ length list)
+    × (n + differences (st cells fog light) (join list (commands list at))
+    ≡ differences (st cells₀ fog₀ light₀) (join list (commands list 0)))
 
 abbrev μ-loop : tie.MeasureT-loop
-μ-loop cells₀ fog₀ light₀ list slots held at₀ cells fog light at = length list - at
+μ-loop cells₀ fog₀ light₀ list slots held at₀ n₀ cells fog light at n = length list - at
 
 slot-table-requires : tie.Need-slot-table-requires Inv-loop μ-loop
 slot-table-requires c κs = search needs
@@ -33,7 +37,7 @@ held-table-requires c κs = search needs
 loop-holds : tie.Need-loop-holds Inv-loop μ-loop
 loop-holds c =
     let at-start = c .before .before .before .before .before .before in
-    (at-start .pre .0, sym (formed-of (at-start .args .list .now)) ∙ at-start .pre .1, refl)
+    (at-start .pre .0, sym (formed-of (at-start .args .list .now)) ∙ at-start .pre .1, refl, omega arith, omega arith, omega arith)
 
 add-parts : tie.Need-add-parts Inv-loop μ-loop
 add-parts c = search needs
@@ -79,6 +83,27 @@ apply-run-requires c κs =
       (omega (arith, h .0), omega (arith, h .2), omega (arith, h .3), omega (arith, h .2, n .0), omega arith),
     )
 
+add-n : tie.Need-add-n Inv-loop μ-loop
+add-n c =
+    let at-apply-run = c .before .before .before .before .before .before in
+    let at-parts = at-apply-run .before .before .before .before .before .before .before .before in
+    let at-loop-test = at-parts .before .before in
+    let at-loop = at-loop-test .before in
+    let at-start = at-loop .before .before .before .before .before .before .before in
+    let a = at-start .args in
+    let o = at-loop .loop in
+    let h = at-parts .parts .result in
+    let s = st (o .cells) (o .fog) (o .light) in
+    omega (
+      arith,
+      at-apply-run .apply-run .ensures .0,
+      command-few s h (getD (a .list .now) (o .at) 0) (a .list .now) (o .at + 2),
+      at-parts .parts .ensures .2,
+      o .inv .3,
+      o .inv .4,
+      at-start .pre .2,
+    )
+
 add-at : tie.Need-add-at Inv-loop μ-loop
 add-at c = search needs
 
@@ -97,21 +122,30 @@ loop-again c =
     let l = a .list .now in
     let o = at-loop .loop in
     let t = at-loop-test .loop-test .taken in
-    let p = at-apply-run .apply-run in
-    let k = p .kept in
+    let k = at-apply-run .apply-run .kept in
     let w = at-words-taken .words-taken .ensures in
     let h = at-parts .parts .ensures in
     let s = st (o .cells) (o .fog) (o .light) in
+    let d = at-parts .parts .result in
     let next = o .at + at-words-taken .words-taken .result in
-    let e : runWith (at-parts .parts .result) (getD l (o .at) 0) l (o .at + 2) ≡ expand l (o .at) =
+    let e : runWith d (getD l (o .at) 0) l (o .at + 2) ≡ expand l (o .at) =
     rw (h .0, h .1, h .2, h .3) (sym (expand-from l (o .at))) in
-    let f : full l (commands l next) ≡ true = rw (w, h .2) (full-next l (o .at) t (o .inv .1) .1) in
+    let p = rw e at (at-apply-run .apply-run .ensures) in
+    let n = full-next l (o .at) t (o .inv .1) in
+    let few = command-few s d (getD l (o .at) 0) l (o .at + 2) in
+    let m : differences s (join l (commands l (o .at)))
+    ≡ differences s (expand l (o .at)) + differences (applyAll s (expand l (o .at))) (join l (commands l next)) =
+    rw (w, h .2) (join-counts l (o .at) s t) in
+    let f : full l (commands l next) ≡ true = rw (w, h .2) (n .1) in
     let j : applyAll (applyAll s (expand l (o .at))) (join l (commands l next))
     ≡ applyAll (st (a .cells .now) (a .fog .now) (a .light .now)) (join l (commands l 0)) =
     rw (w, h .2) (sym (join-applies l (o .at) s t) ∙ o .inv .2) in (
       (omega (arith, k .0), omega (arith, k .1 .0), omega (arith, k .1 .1 .0)),
       f,
-      ap (λ x. applyAll x (join l (commands l next))) (p .ensures ∙ ap (applyAll s) e) ∙ j,
+      ap (λ x. applyAll x (join l (commands l next))) (p .1) ∙ j,
+      omega (arith, o .inv .3, at-apply-run .apply-run .ensures .0, few, w),
+      omega (arith, n .0, w, h .2),
+      rw (p .1) (omega (arith, o .inv .5, p .0, m)),
     )
 
 same-length : tie.Need-same-length Inv-loop μ-loop
@@ -129,7 +163,10 @@ returns c =
     let at-start = at-loop .before .before .before .before .before .before .before in
     let l = at-start .args .list .now in
     let o = at-loop .loop in
-    rw (expansion-of l) (sym (join-applied l (o .at) (st (o .cells) (o .fog) (o .light)) (c .loop-test .left)) ∙ o .inv .2)
+    let t = st (o .cells) (o .fog) (o .light) in
+    let z = c .loop-test .left in
+    rw (expansion-of l)
+    (omega (arith, o .inv .5, join-counted l (o .at) t z), sym (join-applied l (o .at) t z) ∙ o .inv .2)
 
 pub apply-list-spec : {M : Type 1} → statement M
 apply-list-spec =
@@ -149,6 +186,7 @@ apply-list-spec =
     shared-slice-read-apply-run
     add-apply-run
     apply-run-requires
+    add-n
     add-at
     loop-less
     loop-again

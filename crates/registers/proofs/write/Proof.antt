@@ -1,11 +1,12 @@
 -- Each way out is one case of `writeAnswer` and `writeState`. Assumes nothing.
-use mathlib.Core.Path.{_≡_, sym, _∙_}
+use mathlib.Core.Path.{_≡_, sym, ap, _∙_}
 use borrow.Author.Tests.{not-true, not-false}
 use native.Mathlib.Omega.{arith}
+use Rattle.numbers.specs.Answer.{answered}
 use Rattle.words.specs.Writes.{writing}
 use Rattle.registers.specs.State.{st}
 use Rattle.registers.proofs.Sizes.{lengths}
-use Rattle.registers.proofs.Single.{write-refused, write-done, length-refusal, mask-refusal, fault-refusal}
+use Rattle.registers.proofs.Single.{write-refused, write-done, difference-told, length-refusal, mask-refusal, fault-refusal}
 use borrow.Author.Needs.{needs}
 use Rattle.registers.proofs.write.Statement.{statement}
 use Rattle.registers.proofs.write.Tie as tie
@@ -95,7 +96,7 @@ put-one-requires c κs =
     let a = at-start .args in
     let s = st (a .cells .now) (a .fog .now) (a .light .now) in
     let k = lengths s (sym (at-is-sized .is-sized .ensures) ∙ not-false _ (at-if1 .if1 .left)) in
-    (k, (at-slot-table .slot-table .ensures, at-held-table .held-table .ensures))
+    (k, (at-slot-table .slot-table .ensures, at-held-table .held-table .ensures), omega arith)
 
 same-length-10 : tie.Need-same-length-10
 same-length-10 c = search needs
@@ -109,8 +110,8 @@ same-length-12 c = search needs
 returns-4 : tie.Need-returns-4
 returns-4 c =
     let at-put-one = c .before .before .before .before .before .before in
-    let at-spread-mask = at-put-one .before in
-    let at-if3 = at-spread-mask .before .before .before .before .before .before .before .before in
+    let at-spread-mask = at-put-one .before .before .before .before .before .before in
+    let at-if3 = at-spread-mask .before .before .before in
     let at-fault = at-if3 .before in
     let at-if2 = at-fault .before in
     let at-if1 = at-if2 .before in
@@ -121,7 +122,8 @@ returns-4 c =
     let w = writing (a .id) (a .mask) (a .value) in
     let k = sym (at-is-sized .is-sized .ensures) ∙ not-false _ (at-if1 .if1 .left) in
     let d = write-done s w (fault-refusal s w k (at-if2 .if2 .left) ∙ sym (at-fault .fault .ensures) ∙ at-if3 .if3 .left) in
-    (d .0, rw (at-spread-mask .spread-mask .ensures) at (at-put-one .put-one .ensures) ∙ d .1)
+    let p = rw (at-spread-mask .spread-mask .ensures) at (at-put-one .put-one .ensures) in
+    (ap answered (difference-told s w _ (p .0 .0 ∙ omega arith)) ∙ d .0, p .1 ∙ d .1)
 
 pub write-spec : {M : Type 1} → statement M
 write-spec =
