@@ -2,7 +2,7 @@
  * Ilgadeuk's C functions: command lists of the PICA200 read, whole or in pieces, taken apart, written, decoded and packed, and one
  * fragment's result.
  *
- * This is the header of version 0.3.0, and goes with the libpica.a of that version, which stands beside it where both come from
+ * This is the header of version 0.4.0, and goes with the libpica.a of that version, which stands beside it where both come from
  * one build; CHANGELOG.md has what each version brought. The library needs nothing but the C library. Where it is installed,
  *
  *     cc replayer.c $(pkg-config --cflags --libs pica)
@@ -18,7 +18,8 @@
  * the caller: the library keeps nothing between calls and allocates nothing. The functions ask only that the pointers and lengths
  * are true:
  *   - a pointer is aligned for uint32_t, and its length's words are there. For a length of 0 any pointer will do, null too, as an
- *     empty std::vector may give it; the buffers whose length is fixed, reader, fields, given and stored, are never null;
+ *     empty std::vector may give it; the buffers whose length is fixed, differences, reader, fields, given and stored, are never
+ *     null;
  *   - a buffer that a call writes to overlaps no other that it is lent.
  * Everything else is answered or refused, whatever the words are. A refused call changes no buffer; only pica_close, where it
  * refuses a list, makes the reader and the spare state ready for the next one.
@@ -48,6 +49,17 @@
  * three, to 11C, 11D and 11E, and 1 001F0041 2 0 are two, both to 41, with a padding word. A word is a number and not four bytes:
  * where a capture is a file with the lowest byte first, put its words together so (samples/c/forecast.c has load()).
  *
+ * A DIFFERENCE. A write makes a difference where the cell, entry or index that it touches differs afterwards:
+ *   - a write to a held register, one of those that enum pica_field has fields of, where a held bit in the bytes of its mask was
+ *     another before. So the same value again makes none, nor does mask 0, nor a mask of bytes in which the register holds no bit;
+ *   - a write to port data, E8h-EFh or 1C8h-1CFh, always: the port's index moves, though the entry may have held that value, and
+ *     though the index may name a light table that keeps nothing;
+ *   - a write to any other id never: nothing is held of it.
+ * pica_write answers whether its write made one. pica_read and pica_close count those of a list, each write judged on the state
+ * that the ones before it left: where a register holds 1, of the writes 1, 2, 2 and 1 to it the second and the last make a
+ * difference. They store the count in differences[0]. It is never more than the number of writes that they answer, and where it is
+ * 0 the state is as it was. A refused call leaves differences[0] as it was.
+ *
  * Calls may run at the same time as long as none of them writes a buffer that another one is lent.
  */
 #ifndef PICA_H
@@ -65,7 +77,7 @@ extern "C" {
  * #if PICA_VERSION >= 2000 asks for 0.2.0 or a later one.
  */
 #define PICA_VERSION_MAJOR 0
-#define PICA_VERSION_MINOR 3
+#define PICA_VERSION_MINOR 4
 #define PICA_VERSION_PATCH 0
 #define PICA_VERSION (PICA_VERSION_MAJOR * 1000000 + PICA_VERSION_MINOR * 1000 + PICA_VERSION_PATCH)
 
@@ -73,7 +85,7 @@ extern "C" {
 #define PICA_CELLS_LENGTH 768
 #define PICA_FOG_LENGTH 128
 #define PICA_LIGHT_LENGTH 6144
-#define PICA_READER 11
+#define PICA_READER 12
 #define PICA_FIELDS_LENGTH 204
 #define PICA_GIVEN_LENGTH 11
 #define PICA_STORED_LENGTH 3
@@ -126,24 +138,27 @@ static inline uint32_t pica_value(uint64_t answer) { return (uint32_t)answer; }
  *     3, 4 or 5     by its first write at fault.
  * cells, fog, light: changed as the writes say; on a refusal, wherever in the list it is, they are as they were.
  * list: only read.
+ * differences: how many of the writes made a difference; on a refusal as it was. A plain uint32_t will do: pass its address.
  */
 uint64_t pica_read(uint32_t *cells, size_t cells_length, uint32_t *fog, size_t fog_length, uint32_t *light, size_t light_length,
-                   const uint32_t *list, size_t list_length);
+                   const uint32_t *list, size_t list_length, uint32_t differences[1]);
 
 /*
- * A LIST IN PIECES is opened, fed part after part as it comes, and closed. Verdict, place and live state are then those of
- * pica_read on the parts joined, wherever they were cut; no more of them is kept than the reader's words. The writes go to a spare
- * state, lent beside the live one, so that the live state is as it was until the close:
+ * A LIST IN PIECES is opened, fed part after part as it comes, and closed. Verdict, place, both counts and the live state are then
+ * those of pica_read on the parts joined, wherever they were cut; no more of them is kept than the reader's words. The writes go to
+ * a spare state, lent beside the live one, so that the live state is as it was until the close:
  *
- *     uint32_t reader[PICA_READER];
+ *     uint32_t reader[PICA_READER], differences[1];
  *     pica_open(cells, 768, fog, 128, light, 6144, spare_cells, 768, spare_fog, 128, spare_light, 6144, reader);
  *     while ((n = receive(part)) != 0)
  *         pica_feed(spare_cells, 768, spare_fog, 128, spare_light, 6144, reader, part, n);
- *     answer = pica_close(cells, 768, fog, 128, light, 6144, spare_cells, 768, spare_fog, 128, spare_light, 6144, reader);
+ *     answer = pica_close(cells, 768, fog, 128, light, 6144, spare_cells, 768, spare_fog, 128, spare_light, 6144, reader,
+ *                         differences);
  *
  * Nobody else is to write to either state from the opening to the close: an accepted close takes what was written to the spare for
  * the list's own, and what was written to the live state is lost. The first of the reader's words is the number of words that have
- * come. Any words may stand there, also some that no call left: each call is then still answered, or refused by 1 to 6.
+ * come. Any words may stand there, also some that no call left: each call is then still answered, or refused by 1 to 6, though what
+ * the close counts may be any number.
  */
 
 /*
@@ -183,16 +198,17 @@ uint64_t pica_feed(uint32_t *spare_cells, size_t spare_cells_length, uint32_t *s
  * cells, fog, light: take the bits that count of the spare state; on a refusal as they were.
  * spare_cells, spare_fog, spare_light: as they were; on a refusal other than 6 they take the bits that count of the live state.
  * reader: zeros, as freshly opened; on refusal 6 as it was.
+ * differences: how many of the list's writes made a difference; on a refusal, whichever it is, as it was.
  * So after an answer, and after a refusal other than 6, the next list can be fed at once.
  */
 uint64_t pica_close(uint32_t *cells, size_t cells_length, uint32_t *fog, size_t fog_length, uint32_t *light, size_t light_length,
                     uint32_t *spare_cells, size_t spare_cells_length, uint32_t *spare_fog, size_t spare_fog_length,
-                    uint32_t *spare_light, size_t spare_light_length, uint32_t reader[PICA_READER]);
+                    uint32_t *spare_light, size_t spare_light_length, uint32_t reader[PICA_READER], uint32_t differences[1]);
 
 /*
  * Applies a single write to a state. Bit 0 of the mask stands for the lowest byte of the value.
  *
- * Answers 0.
+ * Answers 1 where the write made a difference, else 0.
  * Refuses, in this order and each at 0: 6, 9, 3, 4, 5.
  * cells, fog, light: changed as the write says; on a refusal as they were.
  */

@@ -12,7 +12,7 @@ use crate::options::{parse, wrong, Known};
 use crate::output::{Output, Written};
 use crate::status::{note, Failure, Outcome, Status};
 use crate::text::{grouped, on_one_line};
-use crate::verdict::{fields, line, values, Accepted, Form, Verdict, COLUMNS};
+use crate::verdict::{self, columns, fields, line, values, Form, Verdict};
 
 pub const SUMMARY: &str = "accepts or refuses lists, and says why";
 
@@ -20,14 +20,21 @@ pub const HELP: &str = "\
 Usage: pica judge PATH .. [--csv | --json]
 
 PATH is a file, a folder (every file below it, in order of name) or - (standard input). Each list
-gets a line on standard output: `ok` with its register writes and its words; or `refused` with the
-refusal's number, the place of the command at fault (in words and in bytes from the file's start),
-what it means and what to do; or `unreadable` and why. A list that sets nothing gets a remark. Of
-several lists it is said at the end, on standard error, how many were accepted.
+gets a line on standard output: `ok` with its register writes, how many of them made a difference,
+and its words; or `refused` with the refusal's number, the place of the command at fault (in words
+and in bytes from the file's start), what it means and what to do; or `unreadable` and why. A list
+that sets nothing gets a remark. Of several lists it is said at the end, on standard error, how many
+were accepted.
+
+Each list is read into a state of zeros of its own. A write made a difference if the register, table
+entry or index that it touches differs afterwards; each is judged on what those before it left. Data
+of the fog and light tables counts always, since it moves their index. The other writes set nothing
+new, or went to a register that isn't held, of shaders, vertex buffers or drawing: what these do
+isn't known here, and `pica show` lists them.
 
   --csv    rows of comma-separated values on standard output (in UTF-8, with lines that end in
            CR LF), the first with the columns' names: path, verdict (ok, refused or unreadable),
-           writes, words, number, place, byte, meaning, what_to_do
+           writes, words, number, place, byte, meaning, what_to_do, differences
   --json   the same as one array of objects
 
 Examples
@@ -97,12 +104,12 @@ fn judge_all(entries: &[Entry], form: Form, out: &mut Output) -> Result<(Status,
     let (mut status, mut count) = (Status::Well, Count::default());
     match form {
         Form::Text => {}
-        Form::Csv => write!(out, "{}", csv::row(&[&["path"], &COLUMNS[..]].concat()))?,
+        Form::Csv => write!(out, "{}", csv::row(&[vec!["path"], columns(&[])].concat()))?,
         Form::Json => write!(out, "[")?,
     }
     for (k, entry) in entries.iter().enumerate() {
         let name = entry.name();
-        let verdict: Verdict = lists::load(entry).map(|list| Accepted::of(&list));
+        let verdict: Verdict = lists::load(entry).and_then(|list| verdict::of(&list));
         match &verdict {
             Ok(_) => count.accepted += 1,
             Err(Problem::Refused(_)) => count.refused += 1,
@@ -115,11 +122,11 @@ fn judge_all(entries: &[Entry], form: Form, out: &mut Output) -> Result<(Status,
         match form {
             Form::Text => writeln!(out, "{}: {}", on_one_line(&name), line(&verdict))?,
             Form::Csv => {
-                let row = [vec![csv::path(&name)], fields(&verdict)].concat();
+                let row = [vec![csv::path(&name)], fields(&verdict, &[])].concat();
                 write!(out, "{}", csv::row(&row))?;
             }
             Form::Json => {
-                let mut pairs = values(&verdict);
+                let mut pairs = values(&verdict, Vec::new());
                 pairs.insert(0, ("path", Value::Text(name)));
                 let comma = if k == 0 { "" } else { "," };
                 write!(out, "{comma}\n  {}", object(&pairs))?;

@@ -13,7 +13,7 @@ use crate::options::{parse, wrong, Known};
 use crate::output::{Output, Written};
 use crate::status::{Failure, Outcome, Status};
 use crate::text::{grouped, on_one_line};
-use crate::verdict::{counted, fields, line, values, Accepted, Form, Verdict, COLUMNS};
+use crate::verdict::{columns, counted, fields, line, values, Accepted, Form, Verdict};
 
 pub const SUMMARY: &str = "accepts or refuses one list that comes in parts";
 
@@ -23,15 +23,17 @@ Usage: pica pieces PART .. [--csv | --json]
 PART is a file, a folder (every file below it, in order of name) or - (standard input). The parts,
 in the order given, are one list, cut anywhere: between the words of a command too, and a part may
 be empty. Each is fed as it is read, and gets a line on standard output with its words and how many
-have come so far. Then comes the verdict on the list, as `pica judge` has it of the parts joined;
-the place of a refusal counts from the list's start, and it is said in which part that word stands.
+have come so far. Then comes the verdict on the list, as `pica judge` has it of the parts joined,
+with the differences that its writes made in a state of zeros; the place of a refusal counts from
+the list's start, and it is said in which part that word stands.
 
 A part is whole words of four bytes, like a list. One that can't be read ends the run, without a
 verdict on the list. Past 65,536 words no more is read.
 
   --csv    the verdict alone, as two rows of comma-separated values: the columns' names, which are
-           those of `pica judge --csv` from verdict on, then part, part_word and part_byte (the
-           part that is unreadable or that the place is in, and the place in it); and the values
+           those of `pica judge --csv` from verdict to what_to_do, then part, part_word and
+           part_byte (the part that is unreadable or that the place is in, and the place in it),
+           then differences; and the values
   --json   the same as one object
 
 Examples
@@ -96,13 +98,13 @@ impl Feeding<'_> {
 
     fn close(mut self) -> (Verdict, Option<At>) {
         match self.pieces.close() {
-            Ok(writes) => {
+            Ok(counts) => {
                 let remark = match self.words {
                     0 => Some("empty"),
                     _ => self.is_blank.then_some("sets nothing: every word is 0"),
                 };
                 let accepted = Accepted {
-                    writes: writes as u64,
+                    counts,
                     words: self.words,
                     remark,
                 };
@@ -195,8 +197,7 @@ fn write_csv(verdict: &Verdict, at: &Option<At>, out: &mut Output) -> Result<(),
             number(word.map(|word| 4 * word)),
         ],
     };
-    let names = [&COLUMNS[..], &PART_COLUMNS].concat();
-    let row = [fields(verdict), part.to_vec()].concat();
+    let (names, row) = (columns(&PART_COLUMNS), fields(verdict, &part));
     write!(out, "{}{}", csv::row(&names), csv::row(&row))?;
     Ok(())
 }
@@ -209,7 +210,5 @@ fn json(verdict: &Verdict, at: Option<At>) -> Vec<(&'static str, Value)> {
         Value::from(word),
         Value::from(word.map(|word| 4 * word)),
     ];
-    let mut pairs = values(verdict);
-    pairs.extend(PART_COLUMNS.into_iter().zip(of_part));
-    pairs
+    values(verdict, PART_COLUMNS.into_iter().zip(of_part).collect())
 }

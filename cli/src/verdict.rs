@@ -1,5 +1,7 @@
 //! The verdict on a list, as text, as CSV and as JSON.
 
+use pica::{Counts, State};
+
 use crate::json::Value;
 use crate::lists::{self, List, Problem};
 use crate::refusals;
@@ -7,25 +9,33 @@ use crate::text::grouped;
 
 /// What is said of an accepted list.
 pub struct Accepted {
-    pub writes: u64,
+    /// Its writes, and how many of them made a difference, read into a state of zeros.
+    pub counts: Counts,
     pub words: u64,
     pub remark: Option<&'static str>,
 }
 
-impl Accepted {
-    pub fn of(list: &List) -> Self {
-        Self {
-            writes: list.writes.len() as u64,
-            words: list.words.len() as u64,
-            remark: list.remark(),
-        }
-    }
-}
-
 pub type Verdict = Result<Accepted, Problem>;
 
-/// The columns of CSV and the names of JSON.
-pub const COLUMNS: [&str; 8] = [
+/// Reads the list into a state of zeros.
+pub fn of(list: &List) -> Verdict {
+    let counts = State::default()
+        .read(&list.words)
+        .map_err(Problem::Refused)?;
+    Ok(Accepted {
+        counts,
+        words: list.words.len() as u64,
+        remark: list.remark(),
+    })
+}
+
+/// The columns of CSV and the names of JSON, with those that a subcommand has of its own. The last one stands behind all others, so
+/// that a program which takes columns by place finds them where they were before it came.
+pub fn columns(own: &[&'static str]) -> Vec<&'static str> {
+    [&COLUMNS[..], own, &[DIFFERENCES]].concat()
+}
+
+const COLUMNS: [&str; 8] = [
     "verdict",
     "writes",
     "words",
@@ -36,6 +46,8 @@ pub const COLUMNS: [&str; 8] = [
     "what_to_do",
 ];
 
+const DIFFERENCES: &str = "differences";
+
 /// The whole of it, on one line.
 pub fn line(verdict: &Verdict) -> String {
     match verdict {
@@ -45,8 +57,9 @@ pub fn line(verdict: &Verdict) -> String {
                 .remark
                 .map_or(String::new(), |remark| format!(" ({remark})"));
             format!(
-                "ok, {}, {}{remark}",
-                counted(list.writes, "write"),
+                "ok, {} ({} made a difference), {}{remark}",
+                counted(list.counts.writes as u64, "write"),
+                grouped(list.counts.differences as u64),
                 counted(list.words, "word")
             )
         }
@@ -66,11 +79,14 @@ type Row = (&'static str, [Option<u64>; 5], [String; 2]);
 
 fn row(verdict: &Verdict) -> Row {
     match verdict {
-        Ok(list) => (
-            "ok",
-            [Some(list.writes), Some(list.words), None, None, None],
-            [list.remark.unwrap_or_default().to_owned(), String::new()],
-        ),
+        Ok(list) => {
+            let (writes, words) = (list.counts.writes as u64, list.words);
+            (
+                "ok",
+                [Some(writes), Some(words), None, None, None],
+                [list.remark.unwrap_or_default().to_owned(), String::new()],
+            )
+        }
         Err(Problem::Refused(refusal)) => {
             let (number, place) = (refusal.number, u64::from(refusal.place));
             let texts = [
@@ -97,19 +113,28 @@ fn row(verdict: &Verdict) -> Row {
     }
 }
 
-/// The fields of a CSV row.
-pub fn fields(verdict: &Verdict) -> Vec<String> {
+fn differences(verdict: &Verdict) -> Option<u64> {
+    let list = verdict.as_ref().ok()?;
+    Some(list.counts.differences as u64)
+}
+
+/// The fields of a CSV row, with the subcommand's own.
+pub fn fields(verdict: &Verdict, own: &[String]) -> Vec<String> {
+    let number = |number: Option<u64>| number.map_or(String::new(), |number| number.to_string());
+    let last = number(differences(verdict));
     let (verdict, numbers, texts) = row(verdict);
-    let numbers = numbers.map(|number| number.map_or(String::new(), |number| number.to_string()));
     [verdict.to_owned()]
         .into_iter()
-        .chain(numbers)
+        .chain(numbers.map(number))
         .chain(texts)
+        .chain(own.iter().cloned())
+        .chain([last])
         .collect()
 }
 
-/// The names and values of a JSON object.
-pub fn values(verdict: &Verdict) -> Vec<(&'static str, Value)> {
+/// The names and values of a JSON object, with the subcommand's own.
+pub fn values(verdict: &Verdict, own: Vec<(&'static str, Value)>) -> Vec<(&'static str, Value)> {
+    let last = (DIFFERENCES, Value::from(differences(verdict)));
     let (verdict, numbers, texts) = row(verdict);
     let text = |text: String| {
         if text.is_empty() {
@@ -122,7 +147,8 @@ pub fn values(verdict: &Verdict) -> Vec<(&'static str, Value)> {
         .into_iter()
         .chain(numbers.map(Value::from))
         .chain(texts.map(text));
-    COLUMNS.into_iter().zip(values).collect()
+    let pairs = COLUMNS.into_iter().zip(values);
+    pairs.chain(own).chain([last]).collect()
 }
 
 /// How verdicts are printed.

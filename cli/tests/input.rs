@@ -13,6 +13,8 @@ use std::time::{Duration, Instant};
 use common::{command, pica, pica_fed, shell, Folder};
 
 const LIST: [u32; 2] = [1, 0x000F_0041];
+/// What is said of it.
+const VERDICT: &str = "ok, 1 write (1 made a difference), 2 words";
 
 /// The lines of a run, without the folder's name.
 fn lines(folder: &Folder, out: &str) -> Vec<String> {
@@ -74,8 +76,8 @@ fn what_is_no_file_in_a_folder_is_told_and_never_opened() {
     let _socket = folder.socket("socket");
     let ran = pica(&[OsStr::new("judge"), folder.0.as_os_str()]);
     let expected = [
-        "a: ok, 1 write, 2 words",
-        "link: ok, 1 write, 2 words",
+        &format!("a: {VERDICT}"),
+        &format!("link: {VERDICT}"),
         "lost: unreadable: a link that leads to no file; mend the link, or name the file itself",
         "pipe: unreadable: a pipe and no file; name it by itself to read it",
         "socket: unreadable: a socket and no file; name it by itself to read it",
@@ -94,10 +96,11 @@ fn what_is_no_file_in_a_folder_is_told_and_never_opened() {
 fn pipes_and_devices_are_read_where_they_are_named() {
     let folder = Folder::new("input-named");
     let ran = shell("\"$0\" judge <(printf '\\1\\0\\0\\0A\\0\\17\\0')", &[""]);
-    assert!(ran.out.ends_with(": ok, 1 write, 2 words\n"), "{}", ran.out);
+    let verdict = format!(": {VERDICT}\n");
+    assert!(ran.out.ends_with(&verdict), "{}", ran.out);
     assert_eq!(
         pica(&["judge", "/dev/null"]).out,
-        "/dev/null: ok, 0 writes, 0 words (empty)\n"
+        "/dev/null: ok, 0 writes (0 made a difference), 0 words (empty)\n"
     );
     let zeros = pica(&["judge", "/dev/zero"]);
     assert!(
@@ -109,7 +112,7 @@ fn pipes_and_devices_are_read_where_they_are_named() {
     folder.list("a", &LIST);
     let through_link = pica(&[OsStr::new("judge"), folder.path("self").as_os_str()]);
     assert!(
-        through_link.out.ends_with("self/a: ok, 1 write, 2 words\n"),
+        through_link.out.ends_with(&format!("self/a{verdict}")),
         "{}",
         through_link.out
     );
@@ -143,7 +146,7 @@ fn odd_paths_work() {
         let ran = pica(&[&[OsString::from("judge")], args.as_slice()].concat());
         assert_eq!(
             lines(&folder, &ran.out),
-            ["caf\u{FFFD}\\u{1b}[31m\\n \"&<>,.bin: ok, 1 write, 2 words"]
+            [format!("caf\u{FFFD}\\u{{1b}}[31m\\n \"&<>,.bin: {VERDICT}")]
         );
         assert_eq!(ran.status, Some(0));
     }
@@ -155,7 +158,9 @@ fn odd_paths_work() {
         .unwrap();
     let out = String::from_utf8(ran.stdout).unwrap();
     assert!(
-        out.starts_with("--csv: ok, 1 write, 2 words\n: unreadable: there is no such file"),
+        out.starts_with(&format!(
+            "--csv: {VERDICT}\n: unreadable: there is no such file"
+        )),
         "{out}"
     );
 }

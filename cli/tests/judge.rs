@@ -14,7 +14,7 @@ fn the_sample_lists() {
     assert!(
         accepted
             .out
-            .ends_with("triangle-state.bin: ok, 450 writes, 480 words\n"),
+            .ends_with("triangle-state.bin: ok, 450 writes (417 made a difference), 480 words\n"),
         "{}",
         accepted.out
     );
@@ -59,9 +59,9 @@ fn every_refusal_of_a_list_has_its_number_place_and_text() {
     );
     let longest = pica(&["judge".into(), folder.list("longest", &vec![0; 65_536])]);
     assert!(
-        longest
-            .out
-            .contains("ok, 32,768 writes, 65,536 words (sets nothing: every word is 0)"),
+        longest.out.contains(
+            "ok, 32,768 writes (0 made a difference), 65,536 words (sets nothing: every word is 0)"
+        ),
         "{}",
         longest.out
     );
@@ -71,19 +71,31 @@ fn every_refusal_of_a_list_has_its_number_place_and_text() {
 fn a_list_that_sets_nothing_gets_a_remark() {
     let folder = Folder::new("judge-nothing");
     let cases: [(&str, &[u32], &str); 5] = [
-        ("empty", &[], "ok, 0 writes, 0 words (empty)\n"),
+        (
+            "empty",
+            &[],
+            "ok, 0 writes (0 made a difference), 0 words (empty)\n",
+        ),
         (
             "blank",
             &[0; 8],
-            "ok, 4 writes, 8 words (sets nothing: every word is 0)\n",
+            "ok, 4 writes (0 made a difference), 8 words (sets nothing: every word is 0)\n",
         ),
         (
             "maskless",
             &[7, 0x0000_0041],
-            "ok, 1 write, 2 words (sets nothing: every mask is 0)\n",
+            "ok, 1 write (0 made a difference), 2 words (sets nothing: every mask is 0)\n",
         ),
-        ("one", &[7, 0x0001_0041], "ok, 1 write, 2 words\n"),
-        ("zeros", &[0, 0x000F_0041], "ok, 1 write, 2 words\n"),
+        (
+            "one",
+            &[7, 0x0001_0041],
+            "ok, 1 write (1 made a difference), 2 words\n",
+        ),
+        (
+            "zeros",
+            &[0, 0x000F_0041],
+            "ok, 1 write (0 made a difference), 2 words\n",
+        ),
     ];
     for (name, words, expected) in cases {
         let ran = pica(&["judge".into(), folder.list(name, words)]);
@@ -94,6 +106,24 @@ fn a_list_that_sets_nothing_gets_a_remark() {
             ran.out
         );
     }
+}
+
+/// A list that was read before leaves nothing to the next one: each begins with zeros.
+#[test]
+fn differences_are_those_of_each_list_in_a_state_of_zeros() {
+    let folder = Folder::new("judge-differences");
+    // 41 set twice to the same, 11C, which isn't held, and a fog entry that holds 0 already
+    let list = [1, 0x001F_0041, 1, 0, 7, 0x000F_011C, 0, 0x000F_00E8];
+    let (one, other) = (folder.list("one", &list), folder.list("other", &list));
+    let ran = pica(&["judge".into(), one.clone(), other, one]);
+    assert_eq!(ran.status, Some(0));
+    let verdict = ": ok, 4 writes (2 made a difference), 8 words";
+    assert_eq!(ran.out.lines().count(), 3);
+    assert!(
+        ran.out.lines().all(|line| line.ends_with(verdict)),
+        "{}",
+        ran.out
+    );
 }
 
 #[test]
@@ -124,7 +154,7 @@ fn a_batch_goes_on_and_the_worst_is_its_status() {
         "{}",
         lines[2]
     );
-    assert!(lines[3].ends_with("good: ok, 1 write, 2 words"));
+    assert!(lines[3].ends_with("good: ok, 1 write (1 made a difference), 2 words"));
     assert_eq!(ran.err, "pica: 1 accepted, 1 refused, 2 unreadable\n");
     assert_eq!(
         pica(&["judge".into(), good, example("jump.bin")]).status,
@@ -132,7 +162,7 @@ fn a_batch_goes_on_and_the_worst_is_its_status() {
     );
 }
 
-const COLUMNS: &str = "path verdict writes words number place byte meaning what_to_do";
+const COLUMNS: &str = "path verdict writes words number place byte meaning what_to_do differences";
 
 fn columns() -> Vec<&'static str> {
     COLUMNS.split(' ').collect()
@@ -160,10 +190,12 @@ fn rows(folder: &Folder) -> Vec<Vec<String>> {
 fn csv_has_a_row_for_each() {
     let rows = rows(&verdicts("judge-csv"));
     assert!(rows[0][0].ends_with("/a, \"b\"\n.bin"));
-    assert_eq!(rows[0][1..], ["ok", "2", "4", "", "", "", "", ""]);
+    assert_eq!(rows[0][1..], ["ok", "2", "4", "", "", "", "", "", "2"]);
     let nothing = "sets nothing: every word is 0";
     assert_eq!(rows[1][1..8], ["ok", "1", "2", "", "", "", nothing]);
+    assert_eq!(rows[1][8..], ["", "0"]);
     assert_eq!(rows[2][1..7], ["refused", "", "", "4", "2", "8"]);
+    assert_eq!(rows[2][9], "");
     let long = "a list over 65,536 words";
     assert_eq!(rows[3][1..8], ["refused", "", "", "1", "0", "", long]);
     let seven = "ends within a word (7 bytes)";
@@ -209,15 +241,19 @@ fn json_says_the_same_as_csv() {
     assert_eq!(objects[2].at("words"), &Json::Null);
 }
 
-/// What the library says of bytes, as a row has it: verdict, writes, number and place.
-fn by_the_library(bytes: &[u8]) -> [String; 4] {
+/// What the library says of bytes, as a row has it: verdict, writes, number, place and differences.
+fn by_the_library(bytes: &[u8]) -> [String; 5] {
     let word = |four: &[u8]| u32::from_le_bytes([four[0], four[1], four[2], four[3]]);
     let words: Vec<u32> = bytes.chunks_exact(4).map(word).collect();
     match pica::State::default().read(&words) {
-        _ if bytes.len() % 4 != 0 => ["unreadable", "", "", ""].map(String::from),
-        Ok(writes) => ["ok", &writes.to_string(), "", ""].map(String::from),
+        _ if bytes.len() % 4 != 0 => ["unreadable", "", "", "", ""].map(String::from),
+        Ok(read) => {
+            let (writes, differences) = (read.writes.to_string(), read.differences.to_string());
+            ["ok", &writes, "", "", &differences].map(String::from)
+        }
         Err(pica::Refusal { number, place }) => {
-            ["refused", "", &number.to_string(), &place.to_string()].map(String::from)
+            let (number, place) = (number.to_string(), place.to_string());
+            ["refused", "", &number, &place, ""].map(String::from)
         }
     }
 }
@@ -236,7 +272,7 @@ fn random_bytes_get_the_librarys_verdict() {
     }
     let found = rows(&folder)
         .into_iter()
-        .map(|row| [1, 2, 4, 5].map(|k| row[k].clone()));
+        .map(|row| [1, 2, 4, 5, 9].map(|k| row[k].clone()));
     assert_eq!(found.collect::<Vec<_>>(), expected);
     for verdict in ["ok", "refused", "unreadable"] {
         assert!(expected.iter().any(|row| row[0] == verdict), "{verdict}");
@@ -249,11 +285,11 @@ fn standard_input_comes_in_pieces() {
     let ran = pica_fed(&["judge", "-"], &[&bytes[..3], &bytes[3..9], &bytes[9..]]);
     assert_eq!(
         (ran.status, ran.out.as_str()),
-        (Some(0), "-: ok, 3 writes, 4 words\n")
+        (Some(0), "-: ok, 3 writes (3 made a difference), 4 words\n")
     );
     let twice = pica_fed(&["judge", "-", "-"], &[&bytes]);
     assert_eq!(twice.status, Some(2));
     assert!(twice.out.starts_with(
-        "-: ok, 3 writes, 4 words\n-: unreadable: standard input can be read only once; "
+        "-: ok, 3 writes (3 made a difference), 4 words\n-: unreadable: standard input can be read only once; "
     ));
 }

@@ -45,7 +45,7 @@ examples/pieces/field-3.bin: 51 words, 90 so far
 examples/pieces/field-4.bin: 49 words, 139 so far
 examples/pieces/field-5.bin: 1 word, 140 so far
 examples/pieces/field-6.bin: 2,712 words, 2,852 so far
-the list: ok, 1,824 writes, 2,852 words
+the list: ok, 1,824 writes (159 made a difference), 2,852 words
 "
     );
     assert_eq!(ran.stderr, b"");
@@ -145,7 +145,7 @@ fn the_limit_is_on_the_joined_length() {
     let long = folder.list("long", &vec![0; 65_535]);
     let (one, two) = (folder.list("one", &[0]), folder.list("two", &[0; 2]));
     let most = pieces(&[long.clone(), one]);
-    let accepted = "the list: ok, 32,768 writes, 65,536 words (sets nothing: every word is 0)";
+    let accepted = "the list: ok, 32,768 writes (0 made a difference), 65,536 words (sets nothing: every word is 0)";
     assert_eq!((most.status, verdict(&most)), (Some(0), accepted));
 
     let over = pieces(&[long, two, folder.path("not read")]);
@@ -175,8 +175,9 @@ fn standard_input_is_a_part() {
     let ran = pica_fed(&args, &[&bytes[12..13], &bytes[13..22], &bytes[22..]]);
     assert_eq!(ran.status, Some(0));
     assert!(
-        ran.out
-            .ends_with("\n-: 5 words, 8 so far\nthe list: ok, 4 writes, 8 words\n"),
+        ran.out.ends_with(
+            "\n-: 5 words, 8 so far\nthe list: ok, 4 writes (4 made a difference), 8 words\n"
+        ),
         "{}",
         ran.out
     );
@@ -189,7 +190,7 @@ fn standard_input_is_a_part() {
 }
 
 const COLUMNS: &str =
-    "verdict writes words number place byte meaning what_to_do part part_word part_byte";
+    "verdict writes words number place byte meaning what_to_do part part_word part_byte differences";
 
 /// CSV and JSON say the same of a list, and nothing of its parts before the verdict.
 fn told(paths: &[PathBuf]) -> Vec<String> {
@@ -213,12 +214,12 @@ fn csv_and_json_have_the_verdict() {
     let folder = Folder::new("pieces-csv");
     let good = parts(&folder, &[&LIST[..3], &LIST[3..]]);
     assert_eq!(told(&good)[..6], ["ok", "4", "8", "", "", ""]);
-    assert_eq!(told(&good)[8..], ["", "", ""]);
+    assert_eq!(told(&good)[8..], ["", "", "", "4"]);
 
     let cut = parts(&folder, &[&LIST[..1], &LIST[1..7]]);
     let row = told(&cut);
     assert_eq!(row[..6], ["refused", "", "", "2", "6", "24"]);
-    assert_eq!(row[8..], [cut[1].to_str().unwrap(), "5", "20"]);
+    assert_eq!(row[8..], [cut[1].to_str().unwrap(), "5", "20", ""]);
 
     let missing = folder.path("missing");
     let row = told(&[good[0].clone(), missing.clone()]);
@@ -226,5 +227,5 @@ fn csv_and_json_have_the_verdict() {
         (row[0].as_str(), row[6].as_str()),
         ("unreadable", "there is no such file")
     );
-    assert_eq!(row[8..], [missing.to_str().unwrap(), "", ""]);
+    assert_eq!(row[8..], [missing.to_str().unwrap(), "", "", ""]);
 }

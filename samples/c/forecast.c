@@ -1,6 +1,6 @@
 /*
- * Judges a captured list, whole and in pieces, shows what it sets, forecasts how short it could be, and draws one fragment with
- * the state that the list leaves.
+ * Judges a captured list, whole and in pieces, tells how many of its writes made a difference, shows what it sets, forecasts how
+ * short it could be, and draws one fragment with the state that the list leaves.
  *
  *     forecast FILE        FILE holds the list's words, four bytes a word, the lowest byte first
  *
@@ -50,14 +50,39 @@ static long load(const char *path, uint32_t *words) {
     return count;
 }
 
+/* A refused list leaves the state as it was, and the count of differences too. */
 static int show_read(struct state *s, const uint32_t *list, size_t length) {
     const struct state before = *s;
-    uint64_t answer = pica_read(LENT(s), list, length);
+    const uint32_t untouched = 12345;
+    uint32_t differences = untouched;
+    uint64_t answer = pica_read(LENT(s), list, length, &differences);
     if (!answered("read", answer)) {
-        printf("state: %s\n", memcmp(&before, s, sizeof before) == 0 ? "as it was" : "changed");
+        int is_same = memcmp(&before, s, sizeof before) == 0 && differences == untouched;
+        printf("state and differences: %s\n", is_same ? "as they were" : "changed");
         return 0;
     }
-    printf("read: %u writes from %u words\n", (unsigned)pica_value(answer), (unsigned)length);
+    printf("read: %u writes from %u words, %u of the writes made a difference\n", (unsigned)pica_value(answer), (unsigned)length,
+           (unsigned)differences);
+    return 1;
+}
+
+/* "made a difference" or "made none", for what pica_write answered. */
+static const char *made(uint64_t answer) { return pica_value(answer) ? "made a difference" : "made none"; }
+
+/*
+ * What has been set makes no difference when it is set again. The list once more, into the state that it left: only port data still
+ * counts, since its index moves, and what the list sets to one value and then to another. And a single write, of which the answer
+ * tells: register 40 gets what it doesn't hold, and then the same.
+ */
+static int show_again(const struct state *read, const uint32_t *list, size_t length) {
+    struct state s = *read;
+    uint32_t differences;
+    if (!answered("read again", pica_read(LENT(&s), list, length, &differences))) return 0;
+    printf("read again: %u of the writes made a difference\n", (unsigned)differences);
+    const uint32_t id = 0x40, mask = 15, value = ~s.cells[id];
+    uint64_t first = pica_write(LENT(&s), id, mask, value), again = pica_write(LENT(&s), id, mask, value);
+    if (!answered("write", first) || !answered("write again", again)) return 0;
+    printf("write: another value to %s %s, the same again %s\n", named(pica_register_name(id)), made(first), made(again));
     return 1;
 }
 
@@ -67,7 +92,7 @@ static int show_read(struct state *s, const uint32_t *list, size_t length) {
  */
 static int show_pieces(const struct state *read, const uint32_t *list, size_t length) {
     static struct state live, spare;
-    uint32_t reader[PICA_READER];
+    uint32_t reader[PICA_READER], differences;
     unsigned parts = 0;
     if (!answered("open", pica_open(LENT(&live), LENT(&spare), reader))) return 0;
     for (size_t at = 0, part = 1; at < length; at += part, part *= 2) {
@@ -76,10 +101,11 @@ static int show_pieces(const struct state *read, const uint32_t *list, size_t le
         if (!answered("feed", come)) return 0;
         printf("%s%u", parts++ ? ", " : "pieces: words come ", (unsigned)pica_value(come));
     }
-    uint64_t answer = pica_close(LENT(&live), LENT(&spare), reader);
+    uint64_t answer = pica_close(LENT(&live), LENT(&spare), reader, &differences);
     printf("%sthe state is %s\n", parts ? "; " : "pieces: ", memcmp(&live, read, sizeof live) == 0 ? "that of reading at once" : "another");
     if (!answered("close", answer)) return 0;
-    printf("close: %u writes from %u parts\n", (unsigned)pica_value(answer), parts);
+    printf("close: %u writes from %u parts, %u of the writes made a difference\n", (unsigned)pica_value(answer), parts,
+           (unsigned)differences);
     return 1;
 }
 
@@ -150,12 +176,13 @@ static int show_fragment(const struct state *s) {
 
 /* An empty run, as an empty std::vector hands it over: null with length 0. Its list is the empty one, and has no writes. */
 static int show_empty(struct state *s) {
-    uint64_t packed = pica_pack(NULL, 0, NULL, 0, NULL, 0, NULL, 0), read = pica_read(LENT(s), NULL, 0);
+    uint32_t differences;
+    uint64_t packed = pica_pack(NULL, 0, NULL, 0, NULL, 0, NULL, 0), read = pica_read(LENT(s), NULL, 0, &differences);
     uint64_t writes = pica_writes(NULL, 0, NULL, 0, NULL, 0, NULL, 0);
     if (!answered("pack an empty run", packed) || !answered("read an empty list", read)) return 0;
     if (!answered("writes of an empty list", writes)) return 0;
-    printf("empty: %u words, %u writes, %u of them read\n", (unsigned)pica_value(packed), (unsigned)pica_value(writes),
-           (unsigned)pica_value(read));
+    printf("empty: %u words, %u writes, %u of them read, %u made a difference\n", (unsigned)pica_value(packed),
+           (unsigned)pica_value(writes), (unsigned)pica_value(read), (unsigned)differences);
     return 1;
 }
 
@@ -174,5 +201,5 @@ int main(int argc, char **argv) {
     size_t words = (size_t)length;
     int is_read = show_read(&s, list, words), is_fed = show_pieces(&s, list, words);
     if (!is_read || !is_fed) return 1;
-    return show_fields(&s) && show_forecast(list, words) && show_empty(&s) && show_fragment(&s) ? 0 : 1;
+    return show_again(&s, list, words) && show_fields(&s) && show_forecast(list, words) && show_empty(&s) && show_fragment(&s) ? 0 : 1;
 }

@@ -9,7 +9,7 @@
 
 use crate::fragment::{GIVEN_LENGTH, STORED_LENGTH};
 use crate::pieces::READER_LENGTH;
-use crate::{Refusal, CELLS_LENGTH, FIELDS_LENGTH, FOG_LENGTH, LIGHT_LENGTH};
+use crate::{Counts, Refusal, CELLS_LENGTH, FIELDS_LENGTH, FOG_LENGTH, LIGHT_LENGTH};
 
 mod c {
     extern "C" {
@@ -22,6 +22,7 @@ mod c {
             light_length: usize,
             list: *const u32,
             list_length: usize,
+            differences: *mut u32,
         ) -> u64;
         pub fn pica_open(
             cells: *const u32,
@@ -63,6 +64,7 @@ mod c {
             spare_light: *mut u32,
             spare_light_length: usize,
             reader: *mut u32,
+            differences: *mut u32,
         ) -> u64;
         pub fn pica_write(
             cells: *mut u32,
@@ -132,9 +134,11 @@ pub fn read(
     fog: &mut [u32; FOG_LENGTH],
     light: &mut [u32; LIGHT_LENGTH],
     list: &[u32],
-) -> Result<u32, Refusal> {
-    // SAFETY: three distinct `&mut` arrays and a shared slice, each passed with its own length.
-    apart(unsafe {
+) -> Result<Counts, Refusal> {
+    let mut differences = [0];
+    // SAFETY: three distinct `&mut` arrays and a shared slice, each passed with its own length; `differences` is exactly the one word
+    // that is written.
+    let writes = apart(unsafe {
         c::pica_read(
             cells.as_mut_ptr(),
             cells.len(),
@@ -144,8 +148,10 @@ pub fn read(
             light.len(),
             list.as_ptr(),
             list.len(),
+            differences.as_mut_ptr(),
         )
-    })
+    })?;
+    Ok(Counts::new(writes, differences))
 }
 
 pub fn open(
@@ -210,10 +216,11 @@ pub fn close(
     spare_fog: &mut [u32; FOG_LENGTH],
     spare_light: &mut [u32; LIGHT_LENGTH],
     reader: &mut [u32; READER_LENGTH],
-) -> Result<u32, Refusal> {
+) -> Result<Counts, Refusal> {
+    let mut differences = [0];
     // SAFETY: six distinct `&mut` arrays, each passed with its own length; `reader` is a `&mut` array of exactly the words that are
-    // read and written.
-    apart(unsafe {
+    // read and written, and `differences` exactly the one word that is written.
+    let writes = apart(unsafe {
         c::pica_close(
             cells.as_mut_ptr(),
             cells.len(),
@@ -228,8 +235,10 @@ pub fn close(
             spare_light.as_mut_ptr(),
             spare_light.len(),
             reader.as_mut_ptr(),
+            differences.as_mut_ptr(),
         )
-    })
+    })?;
+    Ok(Counts::new(writes, differences))
 }
 
 pub fn write(

@@ -1,9 +1,10 @@
 //! Command lists of the PICA200, the graphics chip of an old handheld, by the proved library Ilgadeuk.
 //!
 //! A list of command words is read into a [`State`], a register file and two lookup tables, or refused by a number and a
-//! place; one that arrives in pieces is fed part by part ([`State::open`]). A state is decoded into [`Settings`] and tells what one fragment leaves in the framebuffer. A list's own writes are what
-//! [`writes`] gives, and the other way round [`pack`] turns a run of writes into the shortest list that says it. `include/pica.h`
-//! tells how a list is laid out.
+//! place; one that arrives in pieces is fed part by part ([`State::open`]). Either way it is told how many writes the list has and how
+//! many of them made a difference ([`Counts`]). A state is decoded into [`Settings`] and tells what one fragment leaves in the
+//! framebuffer. A list's own writes are what [`writes`] gives, and the other way round [`pack`] turns a run of writes into the shortest
+//! list that says it. `include/pica.h` tells how a list is laid out.
 //!
 //! Any words and any numbers may come in: every call answers or gives a [`Refusal`], and a refused call changes nothing, but for the
 //! spare state of a list in pieces.
@@ -12,8 +13,8 @@
 //! use pica::State;
 //!
 //! let mut state = State::default();
-//! let writes = state.read(&[0x2, 0x000F_0040])?; // culling mode 2, into register 40
-//! assert_eq!(writes, 1);
+//! let read = state.read(&[0x2, 0x000F_0040])?; // culling mode 2, into register 40
+//! assert_eq!((read.writes, read.differences), (1, 1));
 //! assert_eq!(state.decode()?.rasteriser.culling, 2);
 //! # Ok::<(), pica::Refusal>(())
 //! ```
@@ -27,6 +28,7 @@
 
 extern crate alloc;
 
+mod differences;
 mod ffi;
 mod flat;
 mod fragment;
@@ -38,6 +40,7 @@ mod settings;
 mod state;
 mod writes;
 
+pub use differences::{Counts, Written};
 pub use flat::FIELDS_LENGTH;
 pub use fragment::{Given, Outcome, Stored, Verdict};
 pub use pack::{pack, packed, Write, RUN_LENGTH_MOST};

@@ -1,9 +1,9 @@
 //! A list that arrives in pieces.
 
-use crate::{ffi, Refusal, State};
+use crate::{ffi, Counts, Refusal, State};
 
 /// The length of the reader's words, which are all that is kept of the parts.
-pub(crate) const READER_LENGTH: usize = 11;
+pub(crate) const READER_LENGTH: usize = 12;
 
 /// A list that arrives in pieces, opened by [`State::open`]. It borrows the live and the spare state, so that nobody else writes to
 /// them while the list is open.
@@ -13,7 +13,7 @@ pub(crate) const READER_LENGTH: usize = 11;
 /// parts wrote; the next opening sets that right.
 ///
 /// ```
-/// use pica::{Refusal, State};
+/// use pica::{Counts, Refusal, State};
 ///
 /// let (mut live, mut spare) = (State::default(), State::default());
 /// let mut pieces = live.open(&mut spare);
@@ -25,7 +25,7 @@ pub(crate) const READER_LENGTH: usize = 11;
 ///
 /// // the next list, without another opening
 /// pieces.feed(&[7, 0x000F_0041]);
-/// assert_eq!(pieces.close(), Ok(1));
+/// assert_eq!(pieces.close(), Ok(Counts { writes: 1, differences: 1 }));
 /// assert_eq!(live.cells()[0x41], 7);
 /// ```
 ///
@@ -87,14 +87,14 @@ impl<'a> Pieces<'a> {
         )) as usize
     }
 
-    /// Closes the list, and gives the number of its writes. The live state is then what the list leaves. Verdict, place and live state
-    /// are those of [`State::read`] on the parts joined, wherever they were cut.
+    /// Closes the list, and gives the number of its writes and how many of them made a difference. The live state is then what the list
+    /// leaves. Verdict, place, counts and live state are those of [`State::read`] on the parts joined, wherever they were cut.
     ///
     /// # Errors
     ///
     /// Those of [`State::read`], with places from the list's start. The live state is then as it was, and the spare one takes its
     /// values in the bits that count.
-    pub fn close(&mut self) -> Result<usize, Refusal> {
+    pub fn close(&mut self) -> Result<Counts, Refusal> {
         let (live, spare) = (&mut *self.live, &mut *self.spare);
         ffi::close(
             &mut live.cells,
@@ -105,7 +105,6 @@ impl<'a> Pieces<'a> {
             &mut spare.light,
             &mut self.reader,
         )
-        .map(|writes| writes as usize)
     }
 
     /// The live state, to be looked at between lists: what the lists so far left.

@@ -3,7 +3,9 @@
 use alloc::{boxed::Box, vec::Vec};
 use core::fmt;
 
-use crate::{ffi, flat, fragment, Given, Outcome, Pieces, Refusal, Settings, Stored};
+use crate::{
+    ffi, flat, fragment, Counts, Given, Outcome, Pieces, Refusal, Settings, Stored, Written,
+};
 
 /// The length of a state's register cells: cell `i` is register `i`.
 pub const CELLS_LENGTH: usize = 768;
@@ -84,7 +86,8 @@ impl State {
         &mut self.light
     }
 
-    /// Reads a list of command words into the state, and gives the number of its writes.
+    /// Reads a list of command words into the state, and gives the number of its writes and how many of them made a difference;
+    /// [`Written`] says which ones do.
     ///
     /// # Errors
     ///
@@ -96,7 +99,8 @@ impl State {
     ///
     /// let mut state = State::default();
     /// // registers 41, 42 and 43: ids rise, so that the second and third parameter go to the next ones
-    /// assert_eq!(state.read(&[1, 0x802F_0041, 2, 3])?, 3);
+    /// let read = state.read(&[1, 0x802F_0041, 2, 3])?;
+    /// assert_eq!((read.writes, read.differences), (3, 3));
     /// assert_eq!(state.cells()[0x41..0x44], [1, 2, 3]);
     ///
     /// // the same to one register needs no padding either, but it is cut short here
@@ -105,9 +109,8 @@ impl State {
     /// assert_eq!(state.cells()[0x41], 1);
     /// # Ok::<(), Refusal>(())
     /// ```
-    pub fn read(&mut self, list: &[u32]) -> Result<usize, Refusal> {
+    pub fn read(&mut self, list: &[u32]) -> Result<Counts, Refusal> {
         ffi::read(&mut self.cells, &mut self.fog, &mut self.light, list)
-            .map(|writes| writes as usize)
     }
 
     /// Opens a list that arrives in pieces: its parts are fed to the [`Pieces`], which is then closed. The writes go to the spare
@@ -123,7 +126,8 @@ impl State {
     /// let mut pieces = live.open(&mut spare);
     /// let come = parts.map(|part| pieces.feed(part));
     /// assert_eq!(come, [3, 3, 5, 6]);
-    /// assert_eq!(pieces.close()?, 3); // as `read` of the joined list
+    /// let read = pieces.close()?; // as `read` of the joined list
+    /// assert_eq!((read.writes, read.differences), (3, 2)); // the fog index was 0 already
     /// assert_eq!(live.fog()[..2], [0x11, 0x22]);
     /// # Ok::<(), pica::Refusal>(())
     /// ```
@@ -131,7 +135,8 @@ impl State {
         Pieces::new(self, spare)
     }
 
-    /// Applies a single write. Bit 0 of the mask stands for the lowest byte of the value.
+    /// Applies a single write, and tells whether it made a difference; [`Written`] says when it does. Bit 0 of the mask stands for the
+    /// lowest byte of the value.
     ///
     /// # Errors
     ///
@@ -141,21 +146,24 @@ impl State {
     /// use pica::{Refusal, State};
     ///
     /// let mut state = State::default();
-    /// state.write(0x107, 2, 0x1F71)?;
+    /// assert!(state.write(0x107, 2, 0x1F71)?.made_a_difference);
     /// assert_eq!(state.cells()[0x107], 0x1F00);
+    /// assert!(!state.write(0x107, 2, 0x1F71)?.made_a_difference); // that was there already
     /// assert_eq!(state.write(0x107, 16, 0).unwrap_err().number, Refusal::MASK_ABOVE_15);
     /// # Ok::<(), Refusal>(())
     /// ```
-    pub fn write(&mut self, id: u32, mask: u32, value: u32) -> Result<(), Refusal> {
-        ffi::write(
+    pub fn write(&mut self, id: u32, mask: u32, value: u32) -> Result<Written, Refusal> {
+        let answer = ffi::write(
             &mut self.cells,
             &mut self.fog,
             &mut self.light,
             id,
             mask,
             value,
-        )
-        .map(|_| ())
+        )?;
+        Ok(Written {
+            made_a_difference: answer == 1,
+        })
     }
 
     /// Decodes the state into its 204 fields.

@@ -2,7 +2,7 @@
 
 use std::{collections::BTreeMap, fs, path::PathBuf};
 
-use pica::{pack, writes_of, Refusal, Write, RUN_LENGTH_MOST};
+use pica::{pack, writes_of, Counts, Refusal, State, Write, RUN_LENGTH_MOST};
 
 fn examples() -> PathBuf {
     PathBuf::from(concat!(env!("CARGO_MANIFEST_DIR"), "/../../examples"))
@@ -51,19 +51,26 @@ fn parts(mut run: &[Write]) -> Vec<&[Write]> {
     parts
 }
 
-/// The row's columns behind the file's name and what it is: words, writes, verdict, shortest.
-fn row_of(name: &str) -> [String; 4] {
+/// The row's columns behind the file's name and what it is: words, writes, differences, verdict, shortest.
+fn row_of(name: &str) -> [String; 5] {
     let list = list(name);
     let words = list.len().to_string();
-    match writes_of(&list) {
-        Err(refusal) => {
-            let verdict = format!("refused {} at {}", refusal.number, refusal.place);
-            [words, "–".to_string(), verdict, "–".to_string()]
+    let none = || "–".to_string();
+    match State::default().read(&list) {
+        Err(Refusal { number, place }) => {
+            let verdict = format!("refused {number} at {place}");
+            [words, none(), none(), verdict, none()]
         }
-        Ok(run) => {
+        Ok(Counts {
+            writes,
+            differences,
+        }) => {
+            let run = writes_of(&list).expect("what is read has writes");
+            assert_eq!(run.len(), writes, "{name}");
             let shortest: usize = parts(&run).into_iter().map(shortest).sum();
-            let writes = run.len().to_string();
-            [words, writes, "ok".to_string(), shortest.to_string()]
+            let [writes, differences, shortest] =
+                [writes, differences, shortest].map(|number| number.to_string());
+            [words, writes, differences, "ok".to_string(), shortest]
         }
     }
 }
@@ -77,7 +84,7 @@ fn said() -> BTreeMap<String, Vec<String>> {
     let cells =
         |row: &str| -> Vec<String> { row.split('|').map(|c| c.trim().to_string()).collect() };
     rows.map(cells)
-        .map(|row| (row[0].trim_end_matches('`').to_string(), row[2..6].to_vec()))
+        .map(|row| (row[0].trim_end_matches('`').to_string(), row[2..7].to_vec()))
         .collect()
 }
 

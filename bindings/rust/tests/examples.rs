@@ -1,9 +1,16 @@
 //! The scope paper's examples, through the crate's face.
 
-use pica::{packed, Colour, Given, Outcome, Refusal, State, Stored, Verdict, Write};
+use pica::{packed, Colour, Counts, Given, Outcome, Refusal, State, Stored, Verdict, Write};
 
 fn refused(number: u32, place: u32) -> Refusal {
     Refusal { number, place }
+}
+
+fn counted(writes: usize, differences: usize) -> Result<Counts, Refusal> {
+    Ok(Counts {
+        writes,
+        differences,
+    })
 }
 
 /// Writes with mask Fh and the values 1, 2, 3 ..
@@ -28,7 +35,9 @@ fn grey(x: u8) -> Colour {
 /// A state whose fragments pass every test and whose colour is what stage 0 makes of its registers.
 fn drawable(source: u32, combiner: u32) -> State {
     let mut state = State::default();
-    let mut set = |id, value| state.write(id, 15, value).unwrap();
+    let mut set = |id, value| {
+        state.write(id, 15, value).unwrap();
+    };
     set(0xC0, source);
     set(0xC2, combiner);
     for stage in [0xC8, 0xD0, 0xD8, 0xF0, 0xF8] {
@@ -55,7 +64,7 @@ fn drawn(state: &State, given: &Given, stencil: u8) -> Outcome {
 fn three_writes_to_registers_that_are_not_held() {
     let mut state = State::default();
     let list = [0xAAAA_AAAA, 0x802F_011C, 0xBBBB_BBBB, 0xCCCC_CCCC];
-    assert_eq!(state.read(&list), Ok(3));
+    assert_eq!(state.read(&list), counted(3, 0));
     assert_eq!(state, State::default());
 }
 
@@ -63,7 +72,7 @@ fn three_writes_to_registers_that_are_not_held() {
 fn a_mask_picks_bytes() {
     for (mask, left) in [(1, 0x71), (2, 0x1F00)] {
         let mut state = State::default();
-        state.write(0x107, mask, 0x1F71).unwrap();
+        assert!(state.write(0x107, mask, 0x1F71).unwrap().made_a_difference);
         assert_eq!(state.cells()[0x107], left);
     }
 }
@@ -71,7 +80,7 @@ fn a_mask_picks_bytes() {
 #[test]
 fn rising_ids_end_at_2ff_and_meet_the_jump_registers() {
     let mut state = State::default();
-    assert_eq!(state.read(&[0, 0x801F_02FE, 0, 0]), Ok(2));
+    assert_eq!(state.read(&[0, 0x801F_02FE, 0, 0]), counted(2, 0));
     assert_eq!(state.read(&[0, 0x802F_02FE, 0, 0]), Err(refused(3, 0)));
     assert_eq!(state.read(&[0, 0x801F_023B, 0, 0]), Err(refused(4, 0)));
 }
@@ -80,7 +89,7 @@ fn rising_ids_end_at_2ff_and_meet_the_jump_registers() {
 fn the_fog_index_goes_from_127_to_0() {
     let mut state = State::default();
     state.write(0xE6, 15, 127).unwrap();
-    assert_eq!(state.read(&[0x11, 0x001F_00E8, 0x22, 0]), Ok(2));
+    assert_eq!(state.read(&[0x11, 0x001F_00E8, 0x22, 0]), counted(2, 2));
     assert_eq!((state.fog()[127], state.fog()[0]), (0x11, 0x22));
     assert_eq!(state.cells()[0xE6], 1);
 }
@@ -148,7 +157,7 @@ fn a_command_carries_256_writes() {
         let list = packed(&equal).unwrap();
         assert_eq!(list.len(), words);
         let mut state = State::default();
-        assert_eq!(state.read(&list), Ok(writes));
+        assert_eq!(state.read(&list), counted(writes, writes));
         assert_eq!(state.cells()[0x41] as usize, writes);
     }
 }
@@ -157,7 +166,7 @@ fn a_command_carries_256_writes() {
 #[test]
 fn the_empty_list() {
     let mut state = State::default();
-    assert_eq!(state.read(&[]), Ok(0));
+    assert_eq!(state.read(&[]), counted(0, 0));
     assert_eq!(state, State::default());
     assert_eq!(packed(&[]), Ok(vec![]));
     assert_eq!(pica::pack(&[], &[], &[], &mut []), Ok(0));
@@ -174,6 +183,6 @@ fn the_default_write() {
     state.cells_mut().fill(0x5A5A_5A5A);
     let before = state.clone();
     let Write { id, mask, value } = Write::default();
-    assert_eq!(state.write(id, mask, value), Ok(()));
+    assert!(!state.write(id, mask, value).unwrap().made_a_difference);
     assert_eq!(state, before);
 }

@@ -2,7 +2,7 @@
 
 use std::{fs, path::Path};
 
-use pica::{Refusal, State, LIST_LENGTH_MOST};
+use pica::{Counts, Refusal, State, LIST_LENGTH_MOST};
 
 /// A state with something in every buffer, beside the bits that count too.
 fn marked() -> State {
@@ -84,15 +84,22 @@ fn captures_by_parts_of_one_length() {
     }
 }
 
-fn refused(number: u32, place: u32) -> Result<usize, Refusal> {
+fn refused(number: u32, place: u32) -> Result<Counts, Refusal> {
     Err(Refusal { number, place })
+}
+
+fn counted(writes: usize, differences: usize) -> Result<Counts, Refusal> {
+    Ok(Counts {
+        writes,
+        differences,
+    })
 }
 
 /// The next list, without another opening: it sets 41.
 fn assert_next_list(pieces: &mut pica::Pieces, value: u32) {
     assert_eq!(pieces.feed(&[value]), 1);
     assert_eq!(pieces.feed(&[0x000F_0041]), 2);
-    assert_eq!(pieces.close(), Ok(1));
+    assert_eq!(pieces.close(), counted(1, 1));
     assert_eq!(pieces.live().cells()[0x41] & 0xFF_FFFF, value);
 }
 
@@ -110,7 +117,7 @@ fn a_refusal_leaves_the_live_state_and_the_next_list_can_be_fed() {
         assert_eq!(pieces.close(), refused(number, place));
         assert_eq!(*pieces.live(), marked());
         // what the refused list wrote is gone from the spare, which the empty list's close hands to the live state
-        assert_eq!(pieces.close(), Ok(0));
+        assert_eq!(pieces.close(), counted(0, 0));
         assert_eq!(*pieces.live(), marked());
         assert_next_list(&mut pieces, 9);
     }
@@ -136,7 +143,7 @@ fn the_limit_is_on_the_joined_length() {
     let mut pieces = live.open(&mut spare);
     assert_eq!(pieces.feed(&vec![0; LIST_LENGTH_MOST - 2]), 65_534);
     assert_eq!(pieces.feed(&[9, 0x000F_0041]), 65_536);
-    assert_eq!(pieces.close(), Ok(32_768));
+    assert_eq!(pieces.close(), counted(32_768, 1));
     // a fault that came early is told as long as the list isn't too long, and not beyond
     pieces.feed(&jump);
     assert_eq!(pieces.feed(&vec![0; LIST_LENGTH_MOST - 2]), 65_536);
@@ -156,7 +163,7 @@ fn dropped_without_a_close() {
     let _ = live.open(&mut spare).feed(&[9, 0x000F_0041]);
     assert_eq!(live, marked());
     assert_ne!(spare, marked());
-    assert_eq!(live.open(&mut spare).close(), Ok(0));
+    assert_eq!(live.open(&mut spare).close(), counted(0, 0));
     assert_eq!(live, marked());
 }
 
@@ -166,7 +173,7 @@ fn bits_that_do_not_count_stay() {
     let (mut live, mut spare) = (State::default(), marked());
     let mut pieces = live.open(&mut spare);
     pieces.feed(LISTS[2]);
-    assert_eq!(pieces.close(), Ok(5));
+    assert_eq!(pieces.close(), counted(5, 5));
     let mut read = State::default();
     read.read(LISTS[2]).unwrap();
     assert_eq!(live, read);

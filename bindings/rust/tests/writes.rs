@@ -1,7 +1,7 @@
 //! The writes of a list through the crate's face: the scope paper's examples, each refusal and their order, and that a refused
 //! call changes nothing.
 
-use pica::{packed, writes, writes_of, Refusal, State, Write, LIST_LENGTH_MOST};
+use pica::{packed, writes, writes_of, Counts, Refusal, State, Write, LIST_LENGTH_MOST};
 
 const MARK: u32 = 0xDEAD_BEEF;
 
@@ -126,9 +126,18 @@ fn there_and_back() {
     let list = packed(&run).unwrap();
     assert_eq!(writes_of(&list).unwrap(), run);
     let (mut read, mut written) = (State::default(), State::default());
-    assert_eq!(read.read(&list), Ok(run.len()));
+    let mut differences = 0;
     for w in &run {
-        written.write(w.id, w.mask, w.value).unwrap();
+        let one = written.write(w.id, w.mask, w.value).unwrap();
+        differences += usize::from(one.made_a_difference);
     }
+    let writes = run.len();
+    assert_eq!(
+        read.read(&list),
+        Ok(Counts {
+            writes,
+            differences
+        })
+    );
     assert_eq!(read, written);
 }
