@@ -226,10 +226,11 @@ faults! {
     203 DIFFERENCES_ARE_WRITES "differences: all writes counted";
     204 DIFFERENCES_SWAPPED "differences: answered, and the writes in their place";
     205 DIFFERENCES_DATA_TWICE "differences: port data counted by its entry and its index";
-    206 DIFFERENCES_ADDED "differences: added to what stood there";
-    207 DIFFERENCES_NONE_KEPT "differences: the word kept where there are none";
-    208 DIFFERENCES_REFUSED "differences: a refused list's given";
-    209 DIFFERENCES_REFUSED_0 "differences: 0 given for a refused list";
+    206 DIFFERENCES_DATA_RUN "differences: a run of port data counted once";
+    207 DIFFERENCES_ADDED "differences: added to what stood there";
+    208 DIFFERENCES_NONE_KEPT "differences: the word kept where there are none";
+    209 DIFFERENCES_REFUSED "differences: a refused list's given";
+    210 DIFFERENCES_REFUSED_0 "differences: 0 given for a refused list";
 
     // Lists that arrive in pieces
     pieces:
@@ -268,17 +269,17 @@ faults! {
     187 PIECES_CLOSE_SPARE_LIGHT "pieces: close doesn't test the spare state's light length";
 
     // How many writes of such a list made a difference
-    210 PIECES_DIFFERENCES_GO_ON "pieces: differences of the list before counted too";
-    211 PIECES_DIFFERENCES_REOPENED "pieces: differences before another opening counted too";
-    212 PIECES_DIFFERENCES_LAST_PART "pieces: differences of the last part only";
-    213 PIECES_DIFFERENCES_FIRST_PART "pieces: differences of the first part only";
-    214 PIECES_DIFFERENCES_CUT_LOST "pieces: no differences after a cut in a command";
-    215 PIECES_DIFFERENCES_CUT_TOLD "pieces: the first write after a cut in a command is one";
-    216 PIECES_DIFFERENCES_SPARE "pieces: differences judged on the spare state's whole words";
-    217 PIECES_DIFFERENCES_LIVE "pieces: differences judged on the live state alone";
-    218 PIECES_DIFFERENCES_TAKEN "pieces: differences are the words that the live state takes";
-    219 PIECES_DIFFERENCES_ARE_WRITES "pieces: all writes counted as differences";
-    220 PIECES_DIFFERENCES_REFUSED "pieces: a refused list's differences given";
-    221 PIECES_DIFFERENCES_REFUSED_0 "pieces: 0 differences given for a refused list";
-    222 PIECES_DIFFERENCES_6 "pieces: differences given by a close refused with 6";
+    211 PIECES_DIFFERENCES_GO_ON "pieces: differences of the list before counted too";
+    212 PIECES_DIFFERENCES_REOPENED "pieces: differences before another opening counted too";
+    213 PIECES_DIFFERENCES_LAST_PART "pieces: differences of the last part only";
+    214 PIECES_DIFFERENCES_FIRST_PART "pieces: differences of the first part only";
+    215 PIECES_DIFFERENCES_CUT_LOST "pieces: no differences after a cut in a command";
+    216 PIECES_DIFFERENCES_CUT_TOLD "pieces: the first write after a cut in a command is one";
+    217 PIECES_DIFFERENCES_SPARE "pieces: differences judged on the spare state's whole words";
+    218 PIECES_DIFFERENCES_LIVE "pieces: differences judged on the live state alone";
+    219 PIECES_DIFFERENCES_TAKEN "pieces: differences are the words that the live state takes";
+    220 PIECES_DIFFERENCES_ARE_WRITES "pieces: all writes counted as differences";
+    221 PIECES_DIFFERENCES_REFUSED "pieces: a refused list's differences given";
+    222 PIECES_DIFFERENCES_REFUSED_0 "pieces: 0 differences given for a refused list";
+    223 PIECES_DIFFERENCES_6 "pieces: differences given by a close refused with 6";
 }

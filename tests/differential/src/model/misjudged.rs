@@ -85,6 +85,7 @@ pub fn miscounted<const F: u32>(
         DIFFERENCES_COMMANDS => Some(of_commands(before, list, writes)),
         DIFFERENCES_ARE_WRITES => Some(writes.len() as u32),
         DIFFERENCES_DATA_TWICE => Some(with_data_twice(before, writes)),
+        DIFFERENCES_DATA_RUN => Some(with_runs_once(before, writes)),
         DIFFERENCES_REFUSED => Some(count(&made::<NONE>(before, writes))),
         _ => None,
     }
@@ -149,4 +150,15 @@ fn of_commands(before: [&[u32]; 3], list: &[u32], writes: &[Write]) -> u32 {
 fn with_data_twice(before: [&[u32]; 3], writes: &[Write]) -> u32 {
     let data = writes.iter().filter(|write| is_data::<NONE>(write.id));
     data.count() as u32 + count(&made::<DIFFERENCE_ENTRY_ONLY>(before, writes))
+}
+
+/// Port data only where the write before it is none.
+fn with_runs_once(before: [&[u32]; 3], writes: &[Write]) -> u32 {
+    let mut in_run = false;
+    let made = made::<NONE>(before, writes).into_iter().zip(writes);
+    let once = made.map(|(made, write)| {
+        let data = is_data::<NONE>(write.id);
+        made && !(std::mem::replace(&mut in_run, data) && data)
+    });
+    count(&once.collect::<Vec<_>>())
 }
