@@ -15,8 +15,8 @@ const NUMBERS: usize = 23;
 /// The refusals that a whole run has to meet. 11 and 15 to 21 aren't used.
 const REFUSALS: [usize; 14] = [1, 2, 3, 4, 5, 6, 7, 8, 9, 10, 12, 13, 14, 22];
 
-/// What a call gave back, and how many writes of its list made a difference:
-/// nothing is read from that where it was refused or has no list.
+/// What a call gave back, and how many writes of its list made a difference,
+/// where it has a list that wasn't refused.
 #[derive(Clone, Copy)]
 pub struct Answer {
     pub given: u64,
@@ -65,16 +65,16 @@ impl Tally {
             let (number, low) = (answer.number(), answer.given as u32 as usize);
             let differences = answer.differences as usize;
             self.refused[number] += 1;
+            if kind == Kind::Pieces {
+                self.closes[number] += 1;
+            }
             match kind {
-                Kind::Pieces => self.closes[number] += 1,
                 _ if number != 0 => {}
                 Kind::Fragment => self.verdicts[low] += 1,
                 Kind::Read => count_differences(&mut self.read, low, differences),
+                Kind::Pieces => count_differences(&mut self.in_pieces, low, differences),
                 Kind::Write => self.alone[low] += 1,
                 _ => {}
-            }
-            if kind == Kind::Pieces && number == 0 {
-                count_differences(&mut self.in_pieces, low, differences);
             }
         }
     }

@@ -73,7 +73,7 @@ pub fn count(made: &[bool]) -> u32 {
 }
 
 /// The differences of a list that a fault counts, where one is planted.
-pub fn miscounted<const F: u32>(
+pub fn count_wrongly<const F: u32>(
     before: [&[u32]; 3],
     list: &[u32],
     writes: &[Write],

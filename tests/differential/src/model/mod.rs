@@ -11,6 +11,7 @@ mod expansion;
 pub mod faults;
 mod fragment;
 mod held;
+mod miscounted;
 mod misjoined;
 mod misjudged;
 mod names;

@@ -4,9 +4,9 @@
 
 use super::commands::{expand, Write};
 use super::faults::*;
-use super::misjoined;
 use super::reading::{apply_all, list_length};
 use super::{given_back, refuse, state_lengths, Refusal, HELD, LIGHT_ENTRIES};
+use super::{miscounted, misjoined};
 
 /// The words of a reader.
 pub const READER: usize = 12;
@@ -107,7 +107,7 @@ fn try_open(fault: u32, live: State, mut spare: State, mut reader: Reader) -> Re
         take_whole(&mut spare, &live);
     }
     reader.fed.counted = match fault {
-        PIECES_DIFFERENCES_REOPENED if reader.fed.known => misjoined::so_far(reader.fed, &live),
+        PIECES_DIFFERENCES_REOPENED if reader.fed.known => miscounted::so_far(reader.fed, &live),
         _ => 0,
     };
     if fault != PIECES_OPEN_GOES_ON || !reader.fed.known {
@@ -208,12 +208,12 @@ fn read_joined(
     writes: &mut Vec<Write>,
 ) -> (Result<u32, Refusal>, u32) {
     let verdict = judge(fault, fed, writes);
-    let miscounted = misjoined::miscounted(fault, live, spare, fed, writes);
+    let wrong = miscounted::count_wrongly(fault, live, spare, fed, writes);
     let mut made = 0;
     if verdict.is_ok() || fault == PIECES_LIVE_BEFORE_REFUSAL {
         made = put_all(live, writes);
     }
-    (verdict, miscounted.unwrap_or(made))
+    (verdict, wrong.unwrap_or(made))
 }
 
 fn put_all([cells, fog, light]: &mut State, writes: &[Write]) -> u32 {

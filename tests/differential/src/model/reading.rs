@@ -68,13 +68,13 @@ pub fn read<const F: u32>(
 ) -> u64 {
     let mut writes = Vec::new();
     let mut result = read_writes::<F>(cells, fog, light, list, &mut writes);
-    let miscounted = misjudged::miscounted::<F>([cells, fog, light], list, &writes);
+    let wrong = misjudged::count_wrongly::<F>([cells, fog, light], list, &writes);
     let mut made = 0;
     // Only a list that is read to its end changes the state.
     if result.is_ok() || F == APPLIES_BEFORE_REFUSAL {
         made = apply_all::<F>(cells, fog, light, &writes);
     }
-    made = miscounted.unwrap_or(made);
+    made = wrong.unwrap_or(made);
     if F == DIFFERENCES_SWAPPED && result.is_ok() {
         result = Ok(std::mem::replace(&mut made, writes.len() as u32));
     }
