@@ -111,6 +111,17 @@ static inline uint32_t put_rising(uint32_t *restrict cells, uint32_t *restrict f
     return made;
 }
 
+/* A command of up to four values to rising ids, none of four a port's data. How many they are decides no branch: no bit of the others
+   changes. */
+static inline uint32_t put_few(uint32_t *restrict cells, uint32_t id, uint32_t bytes, const uint32_t *restrict at, uint32_t count) {
+    const uint32_t *bits = &plain_held[id];
+    uint32_t *restrict to = &cells[id], last = count + (count > 0), made = put_cell(&to[0], bits[0] & bytes, at[0]);
+    made += put_cell(&to[1], bits[1] & (count > 0 ? bytes : 0), at[least(2, last)]);
+    made += put_cell(&to[2], bits[2] & (count > 1 ? bytes : 0), at[least(3, last)]);
+    made += put_cell(&to[3], bits[3] & (count > 2 ? bytes : 0), at[least(4, last)]);
+    return made;
+}
+
 /* A command whose words are all here. Its first value stands before its header, the others after it. */
 static inline uint32_t apply_command(uint32_t *restrict cells, uint32_t *restrict fog, uint32_t *restrict light, struct command c,
                                      const uint32_t *restrict at) {
@@ -122,6 +133,8 @@ static inline uint32_t apply_command(uint32_t *restrict cells, uint32_t *restric
     }
     uint32_t bits = plain_held[c.id] & bytes;
     if (c.step) {
+        /* no port's data begins among the next three */
+        if (c.count <= 3 && c.id < 0x2FD && !is_port(c.id + 3)) return put_few(cells, c.id, bytes, at, c.count);
         made = put_cell(&cells[c.id], bits, at[0]);
         return made + put_rising(cells, fog, light, c.id + 1, bytes, at + 2, c.count);
     }
