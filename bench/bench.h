@@ -12,12 +12,12 @@ struct state {
 
 /* The proved library and the plain version are called through the same table, so that the way of calling costs both the same. */
 struct library {
-    uint64_t (*read)(uint32_t *, size_t, uint32_t *, size_t, uint32_t *, size_t, const uint32_t *, size_t);
+    uint64_t (*read)(uint32_t *, size_t, uint32_t *, size_t, uint32_t *, size_t, const uint32_t *, size_t, uint32_t *);
     uint64_t (*open)(const uint32_t *, size_t, const uint32_t *, size_t, const uint32_t *, size_t, uint32_t *, size_t, uint32_t *, size_t,
                      uint32_t *, size_t, uint32_t *);
     uint64_t (*feed)(uint32_t *, size_t, uint32_t *, size_t, uint32_t *, size_t, uint32_t *, const uint32_t *, size_t);
     uint64_t (*close)(uint32_t *, size_t, uint32_t *, size_t, uint32_t *, size_t, uint32_t *, size_t, uint32_t *, size_t, uint32_t *,
-                      size_t, uint32_t *);
+                      size_t, uint32_t *, uint32_t *);
     uint64_t (*write)(uint32_t *, size_t, uint32_t *, size_t, uint32_t *, size_t, uint32_t, uint32_t, uint32_t);
     uint64_t (*writes)(const uint32_t *, size_t, uint32_t *, size_t, uint32_t *, size_t, uint32_t *, size_t);
     uint64_t (*pack)(const uint32_t *, size_t, const uint32_t *, size_t, const uint32_t *, size_t, uint32_t *, size_t);
@@ -56,6 +56,8 @@ void light_uploads(struct list *list, size_t words);
 void fog_uploads(struct list *list, size_t words);
 void long_unheld(struct list *list, size_t words);
 void one_command(struct list *list, size_t words);
+void one_held(struct list *list, size_t words);
+void one_unheld(struct list *list, size_t words);
 void long_mixed(struct list *list, size_t words);
 void capture(struct list *list, size_t words);
 void refused_at_last(struct list *list, size_t words);
@@ -78,6 +80,7 @@ struct side {
     uint32_t fields[PICA_FIELDS_LENGTH];
     uint32_t stored[CALLS][PICA_STORED_LENGTH];
     uint64_t answers[CALLS]; /* of the last calls */
+    uint32_t differences[CALLS];
 };
 
 enum call { READ, OPEN, FEED, CLOSE, WRITE, WRITES, PACK, DECODE, FRAGMENT };

@@ -6,13 +6,17 @@
 
 enum { READS = 40000, PIECES = 40000, WRITES_ALONE = 20000, LISTS = 30000, PACKS = 30000, STATES = 30000 };
 
-static struct state left_by_ours, left_by_plain;
-static struct in_pieces { struct state live, spare; uint32_t reader[PICA_READER]; } fed_by_ours, fed_by_plain;
+/* Words beside the differences, which no call may touch. */
+struct counted { uint32_t before, differences[1], after; };
+static struct whole { struct state state; struct counted counted; } left_by_ours, left_by_plain;
+static struct in_pieces { struct state live, spare; uint32_t reader[PICA_READER]; struct counted counted; } fed_by_ours, fed_by_plain;
 
 /* How often each call was answered with each number, so that no rule goes untried unnoticed. */
 static const char *const names[] = {"read", "open", "feed", "close", "write", "writes", "pack", "decode", "fragment"};
 enum { CALLS_MADE = 9, NUMBERS = 23 };
 static unsigned met[CALLS_MADE][NUMBERS];
+/* Of the calls that tell of differences: how often no write made one, some did, and all. */
+static unsigned differing[CALLS_MADE][3];
 
 static int alike(enum call call, unsigned which, uint64_t a, uint64_t b, const void *x, const void *y, size_t size) {
     if (a == b && memcmp(x, y, size) == 0) {
@@ -24,7 +28,12 @@ static int alike(enum call call, unsigned which, uint64_t a, uint64_t b, const v
     return 0;
 }
 
-/* Every number that a call can answer with was met at least ten times, and a third of the calls were answered. */
+static void count_differences(enum call call, uint64_t writes, uint32_t differences) {
+    if (pica_number(writes) == 0 && writes > 0) differing[call][differences == 0 ? 0 : differences < writes ? 1 : 2]++;
+}
+
+/* Every number that a call can answer with was met at least ten times, and a third of the calls were answered; each kind of differences was
+   met in one of 100. */
 static int all_met(void) {
     static const uint32_t numbers[CALLS_MADE] = {0x7F, 0x41, 0x41, 0x7F, 0x279, 0x4000BF, 0x7B9, 0x2041, 0x7041}; /* a bit for each */
     for (int call = 0; call < CALLS_MADE; call++) {
@@ -35,14 +44,18 @@ static int all_met(void) {
                 printf("%s: number %d was met in %u random cases only\n", names[call], k, met[call][k]);
                 return 0;
             }
+        for (int k = 0; k < 3; k++)
+            if ((call == READ || call == CLOSE || (call == WRITE && k != 1)) && differing[call][k] < all / 100) {
+                printf("%s: differences by %s of the writes were met in %u random cases only\n", names[call],
+                       k == 0 ? "none" : k == 1 ? "some" : "all", differing[call][k]);
+                return 0;
+            }
     }
     return 1;
 }
 
 static void new_states(void) {
-    fill(left_by_ours.cells, PICA_CELLS_LENGTH);
-    fill(left_by_ours.fog, PICA_FOG_LENGTH);
-    fill(left_by_ours.light, PICA_LIGHT_LENGTH);
+    fill((uint32_t *)&left_by_ours, sizeof left_by_ours / sizeof(uint32_t));
     left_by_plain = left_by_ours;
 }
 
@@ -96,23 +109,42 @@ static void random_list(struct list *list) {
     if (below(1000) == 0) list->length = PICA_LIST_LENGTH_MOST + below(2); /* whatever stands there */
 }
 
-static int compare_reads(void) {
-    static struct list list;
-    size_t n[3];
-    for (unsigned k = 0; k < READS; k++) {
-        if (k % 64 == 0) new_states();
-        random_list(&list);
-        lengths(n);
-        struct state *a = &left_by_ours, *b = &left_by_plain;
-        uint64_t x = ours.read(a->cells, n[0], a->fog, n[1], a->light, n[2], list.words, list.length);
-        uint64_t y = plain.read(b->cells, n[0], b->fog, n[1], b->light, n[2], list.words, list.length);
-        if (!alike(READ, k, x, y, a, b, sizeof *a)) return 0;
+/* In three lists of four, all values or about half of them become what the cells hold, or the value before it in a command to one id; in
+   one of these some then differ by a bit. Such writes often store what is there. */
+static void restate(struct list *list, const uint32_t *cells) {
+    enum { ALL, HALF, HALF_BUT_BITS, NONE } which = below(4);
+    for (size_t at = 0; which != NONE && at + 1 < list->length;) {
+        uint32_t header = list->words[at + 1], id = header & 0xFFFF, count = header >> 20 & 255, step = header >> 31, again = below(3);
+        for (uint32_t k = 0; k <= count; k++) {
+            size_t word = at + k + (k > 0), before = k > 1 ? word - 1 : at;
+            if (word >= list->length || id + step * k > 0x2FF) return;
+            if (which == ALL || below(2)) list->words[word] = again && k > 0 && !step ? list->words[before] : cells[id + step * k];
+            if (which == HALF_BUT_BITS && below(8) == 0) list->words[word] ^= UINT32_C(1) << below(32);
+        }
+        at += (count + 3) & ~UINT32_C(1);
     }
-    return 1;
 }
 
 /* A state, lent with these lengths. */
 #define LENT_AS(s, n) (s).cells, (n)[0], (s).fog, (n)[1], (s).light, (n)[2]
+
+static int compare_reads(void) {
+    static struct list list;
+    struct whole *a = &left_by_ours, *b = &left_by_plain;
+    size_t n[3];
+    for (unsigned k = 0; k < READS; k++) {
+        if (k % 64 == 0) new_states();
+        random_list(&list);
+        restate(&list, a->state.cells);
+        lengths(n);
+        a->counted.differences[0] = b->counted.differences[0] = any();
+        uint64_t x = ours.read(LENT_AS(a->state, n), list.words, list.length, a->counted.differences);
+        uint64_t y = plain.read(LENT_AS(b->state, n), list.words, list.length, b->counted.differences);
+        if (!alike(READ, k, x, y, a, b, sizeof *a)) return 0;
+        count_differences(READ, y, b->counted.differences[0]);
+    }
+    return 1;
+}
 
 static int feed_both(unsigned which, const uint32_t *part, size_t length) {
     struct in_pieces *a = &fed_by_ours, *b = &fed_by_plain;
@@ -140,8 +172,10 @@ static int compare_one_in_pieces(unsigned which, const struct list *list) {
         if (!feed_both(which, list->words + at, part)) return 0;
     }
     lengths(n), lengths(m);
-    uint64_t x = ours.close(LENT_AS(a->live, n), LENT_AS(a->spare, m), a->reader);
-    uint64_t y = plain.close(LENT_AS(b->live, n), LENT_AS(b->spare, m), b->reader);
+    a->counted.differences[0] = b->counted.differences[0] = any();
+    uint64_t x = ours.close(LENT_AS(a->live, n), LENT_AS(a->spare, m), a->reader, a->counted.differences);
+    uint64_t y = plain.close(LENT_AS(b->live, n), LENT_AS(b->spare, m), b->reader, b->counted.differences);
+    count_differences(CLOSE, y, b->counted.differences[0]);
     return alike(CLOSE, which, x, y, a, b, sizeof *a);
 }
 
@@ -153,21 +187,23 @@ static int compare_pieces(void) {
             fed_by_plain = fed_by_ours;
         }
         random_list(&list);
+        restate(&list, fed_by_ours.live.cells);
         if (!compare_one_in_pieces(k, &list)) return 0;
     }
     return 1;
 }
 
 static int compare_writes(void) {
+    struct whole *a = &left_by_ours, *b = &left_by_plain;
     size_t n[3];
     new_states();
     for (unsigned k = 0; k < WRITES_ALONE; k++) {
         uint32_t id = below(64) ? edge_id() : any(), mask = below(16) ? edge_mask(id) : below(2) ? below(20) : any(), value = any();
+        if (id <= 0x2FF && below(2)) value = a->state.cells[id] ^ below(2) << below(32);
         lengths(n);
-        struct state *a = &left_by_ours, *b = &left_by_plain;
-        uint64_t x = ours.write(a->cells, n[0], a->fog, n[1], a->light, n[2], id, mask, value);
-        uint64_t y = plain.write(b->cells, n[0], b->fog, n[1], b->light, n[2], id, mask, value);
+        uint64_t x = ours.write(LENT_AS(a->state, n), id, mask, value), y = plain.write(LENT_AS(b->state, n), id, mask, value);
         if (!alike(WRITE, k, x, y, a, b, sizeof *a)) return 0;
+        if (pica_number(y) == 0) differing[WRITE][y ? 2 : 0]++;
     }
     return 1;
 }
@@ -268,7 +304,7 @@ static void random_state(struct state *s, uint32_t given[PICA_GIVEN_LENGTH]) {
 static int compare_states(void) {
     uint32_t given[PICA_GIVEN_LENGTH], fields[2][PICA_FIELDS_LENGTH] = {{0}}, stored[2][PICA_STORED_LENGTH] = {{0}};
     size_t n[3];
-    struct state *s = &left_by_ours;
+    struct state *s = &left_by_ours.state;
     for (unsigned k = 0; k < STATES; k++) {
         random_state(s, given);
         lengths(n);

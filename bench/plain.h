@@ -5,7 +5,7 @@
 #include "pica.h"
 
 uint64_t plain_read(uint32_t *cells, size_t cells_length, uint32_t *fog, size_t fog_length, uint32_t *light, size_t light_length,
-                    const uint32_t *list, size_t list_length);
+                    const uint32_t *list, size_t list_length, uint32_t differences[1]);
 uint64_t plain_open(const uint32_t *cells, size_t cells_length, const uint32_t *fog, size_t fog_length, const uint32_t *light,
                     size_t light_length, uint32_t *spare_cells, size_t spare_cells_length, uint32_t *spare_fog, size_t spare_fog_length,
                     uint32_t *spare_light, size_t spare_light_length, uint32_t reader[PICA_READER]);
@@ -13,7 +13,7 @@ uint64_t plain_feed(uint32_t *cells, size_t cells_length, uint32_t *fog, size_t 
                     uint32_t reader[PICA_READER], const uint32_t *part, size_t part_length);
 uint64_t plain_close(uint32_t *cells, size_t cells_length, uint32_t *fog, size_t fog_length, uint32_t *light, size_t light_length,
                      uint32_t *spare_cells, size_t spare_cells_length, uint32_t *spare_fog, size_t spare_fog_length,
-                     uint32_t *spare_light, size_t spare_light_length, uint32_t reader[PICA_READER]);
+                     uint32_t *spare_light, size_t spare_light_length, uint32_t reader[PICA_READER], uint32_t differences[1]);
 uint64_t plain_write(uint32_t *cells, size_t cells_length, uint32_t *fog, size_t fog_length, uint32_t *light, size_t light_length,
                      uint32_t id, uint32_t mask, uint32_t value);
 uint64_t plain_writes(const uint32_t *list, size_t list_length, uint32_t *ids, size_t ids_length, uint32_t *masks, size_t masks_length,

@@ -3,16 +3,16 @@
 
 /* The reader's words, in their order. */
 struct progress {
-    uint32_t come, place, begun, first, id, mask, step, left, pad, writes, fault;
+    uint32_t come, place, begun, first, id, mask, step, left, pad, writes, fault, differences;
 };
 
 static inline struct progress progress_of(const uint32_t *r) {
-    return (struct progress){r[0], r[1], r[2], r[3], r[4], r[5], r[6], r[7], r[8], r[9], r[10]};
+    return (struct progress){r[0], r[1], r[2], r[3], r[4], r[5], r[6], r[7], r[8], r[9], r[10], r[11]};
 }
 
 static inline void put_progress(uint32_t *r, struct progress p) {
     r[0] = p.come, r[1] = p.place, r[2] = p.begun, r[3] = p.first, r[4] = p.id, r[5] = p.mask;
-    r[6] = p.step, r[7] = p.left, r[8] = p.pad, r[9] = p.writes, r[10] = p.fault;
+    r[6] = p.step, r[7] = p.left, r[8] = p.pad, r[9] = p.writes, r[10] = p.fault, r[11] = p.differences;
 }
 
 /* A state takes what counts of another. */
@@ -27,11 +27,11 @@ static void take(uint32_t *restrict cells, uint32_t *restrict fog, uint32_t *res
 static inline const uint32_t *whole_commands(struct progress *p, uint32_t *restrict cells, uint32_t *restrict fog,
                                              uint32_t *restrict light, const uint32_t *restrict part, const uint32_t *end) {
     const uint32_t *at = part, *last = part;
-    uint32_t writes = p->writes;
+    uint32_t writes = p->writes, made = p->differences;
     while (end - at >= 2) {
         struct command c = command_of(at[1]);
         if (end - at < (ptrdiff_t)c.words || can_fail(c.id, c.id + c.step * c.count, c.mask)) break;
-        apply_command(cells, fog, light, c, at);
+        made += apply_command(cells, fog, light, c, at);
         writes += c.count + 1;
         last = at;
         at += c.words;
@@ -45,6 +45,7 @@ static inline const uint32_t *whole_commands(struct progress *p, uint32_t *restr
     p->step = c.step;
     p->come += (uint32_t)(at - part);
     p->writes = writes;
+    p->differences = made;
     return at;
 }
 
@@ -54,9 +55,9 @@ static inline void put_sound(struct progress *p, uint32_t *restrict cells, uint3
     if (p->fault == 0) p->fault = plain_fault(p->id, p->mask);
     if (p->fault) return;
     if (is_port(p->id))
-        put_port(cells, fog, light, p->id, &value, 1);
+        p->differences += put_port(cells, fog, light, p->id, &value, 1);
     else
-        put_cell(&cells[p->id], plain_held[p->id] & spread(p->mask & 15), value);
+        p->differences += put_cell(&cells[p->id], plain_held[p->id] & spread(p->mask & 15), value);
 }
 
 /* Extra parameters: all that are here if none of them can be at fault, else one. */
@@ -68,13 +69,14 @@ static inline const uint32_t *extras(struct progress *p, uint32_t *restrict cell
         p->id = id;
         put_sound(p, cells, fog, light, at[0]);
     } else {
+        uint32_t bytes = spread(p->mask & 15);
         p->id = last;
         if (p->step)
-            put_rising(cells, fog, light, id, spread(p->mask & 15), at, count);
+            p->differences += put_rising(cells, fog, light, id, bytes, at, count);
         else if (is_port(id))
-            put_port(cells, fog, light, id, at, count);
+            p->differences += put_port(cells, fog, light, id, at, count);
         else
-            put_cell(&cells[id], plain_held[id] & spread(p->mask & 15), at[count - 1]);
+            p->differences += put_values(&cells[id], plain_held[id] & bytes, at, count);
     }
     p->come += count;
     p->left -= count;
@@ -144,14 +146,17 @@ static uint64_t verdict(struct progress p) {
 
 uint64_t plain_close(uint32_t *cells, size_t cells_length, uint32_t *fog, size_t fog_length, uint32_t *light, size_t light_length,
                      uint32_t *spare_cells, size_t spare_cells_length, uint32_t *spare_fog, size_t spare_fog_length,
-                     uint32_t *spare_light, size_t spare_light_length, uint32_t reader[PICA_READER]) {
+                     uint32_t *spare_light, size_t spare_light_length, uint32_t reader[PICA_READER], uint32_t differences[1]) {
     if (!plain_is_sized(cells_length, fog_length, light_length)) return plain_refused(PICA_BUFFER_LENGTH, 0);
     if (!plain_is_sized(spare_cells_length, spare_fog_length, spare_light_length)) return plain_refused(PICA_BUFFER_LENGTH, 0);
-    uint64_t answer = verdict(progress_of(reader));
-    if (pica_number(answer))
+    struct progress p = progress_of(reader);
+    uint64_t answer = verdict(p);
+    if (pica_number(answer)) {
         take(spare_cells, spare_fog, spare_light, cells, fog, light);
-    else
+    } else {
         take(cells, fog, light, spare_cells, spare_fog, spare_light);
+        differences[0] = p.differences;
+    }
     put_progress(reader, (struct progress){0});
     return answer;
 }

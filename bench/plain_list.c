@@ -18,21 +18,23 @@ const uint32_t plain_held[PICA_CELLS_LENGTH] = {
     [0x1C5] = 0x1FFF,
 };
 
-static void apply(uint32_t *restrict cells, uint32_t *restrict fog, uint32_t *restrict light, const uint32_t *restrict at,
-                  const uint32_t *end) {
+static uint32_t apply(uint32_t *restrict cells, uint32_t *restrict fog, uint32_t *restrict light, const uint32_t *restrict at,
+                      const uint32_t *end) {
+    uint32_t made = 0;
     while (at < end) {
         struct command c = command_of(at[1]);
-        apply_command(cells, fog, light, c, at);
+        made += apply_command(cells, fog, light, c, at);
         at += c.words;
     }
+    return made;
 }
 
 uint64_t plain_read(uint32_t *cells, size_t cells_length, uint32_t *fog, size_t fog_length, uint32_t *light, size_t light_length,
-                    const uint32_t *list, size_t list_length) {
+                    const uint32_t *list, size_t list_length, uint32_t differences[1]) {
     if (!plain_is_sized(cells_length, fog_length, light_length)) return plain_refused(PICA_BUFFER_LENGTH, 0);
     if (list_length > PICA_LIST_LENGTH_MOST) return plain_refused(PICA_LIST_TOO_LONG, 0);
     uint64_t answer = judge(list, list_length);
-    if (pica_number(answer) == 0) apply(cells, fog, light, list, list + list_length);
+    if (pica_number(answer) == 0) differences[0] = apply(cells, fog, light, list, list + list_length);
     return answer;
 }
 
@@ -42,9 +44,6 @@ uint64_t plain_write(uint32_t *cells, size_t cells_length, uint32_t *fog, size_t
     if (mask > 15) return plain_refused(PICA_MASK_ABOVE_15, 0);
     uint32_t number = plain_fault(id, mask);
     if (number) return plain_refused(number, 0);
-    if (is_port(id))
-        put_port(cells, fog, light, id, &value, 1);
-    else
-        put_cell(&cells[id], plain_held[id] & spread(mask), value);
-    return 0;
+    if (is_port(id)) return put_port(cells, fog, light, id, &value, 1);
+    return put_cell(&cells[id], plain_held[id] & spread(mask), value);
 }

@@ -52,6 +52,19 @@ void one_command(struct list *list, size_t words) {
     command(list, 0x2C1, 15, (uint32_t)words - 2, 0);
 }
 
+/* A whole command of values to one register, then to another. */
+void one_held(struct list *list, size_t words) {
+    list->length = 0;
+    while (left(list, words) >= 258) command(list, held_id(), 15, 256, 0);
+    pad(list, words);
+}
+
+void one_unheld(struct list *list, size_t words) {
+    list->length = 0;
+    while (left(list, words) >= 258) command(list, 0x2C1, 15, 256, 0);
+    pad(list, words);
+}
+
 /* Held registers, others and the fog's port, whose index stands two ids before its data. */
 void long_mixed(struct list *list, size_t words) {
     list->length = 0;

@@ -23,6 +23,8 @@ const struct workload workloads[] = {
     READING("fog tables, 128 writes a command", fog_uploads, 8192, 1, 0),
     READING("long commands, rising, not held", long_unheld, 8192, 1, 0),
     READING("long commands, rising, 40 to 13F", long_mixed, 8192, 1, 0),
+    READING("one held id, 256 values a command", one_held, 8256, 1, 0),
+    READING("one id, not held, 256 values a command", one_unheld, 8256, 1, 0),
     READING("like a capture", capture, 32768, 2, 0),
     READING("like a capture, refused at the end", refused_at_last, 32768, 2, PICA_JUMP_REGISTER),
     READING("list of 64 words", short_held, 64, 1024, 0),
@@ -32,6 +34,8 @@ const struct workload workloads[] = {
     FEEDING("fog tables", fog_uploads, 8192, 1, 0),
     FEEDING("rising, not held", long_unheld, 8192, 1, 0),
     FEEDING("rising, 40 to 13F", long_mixed, 8192, 1, 0),
+    FEEDING("one held id", one_held, 8256, 1, 0),
+    FEEDING("one id, not held", one_unheld, 8256, 1, 0),
     FEEDING("like a capture", capture, 32768, 2, 0),
     FEEDING("refused at the end", refused_at_last, 32768, 2, PICA_JUMP_REGISTER),
     FED("list of 64 words, whole", short_held, 64, 1024, 0, 64),
@@ -113,7 +117,8 @@ static void one_round(const struct workload *w, const struct library *l, struct 
     size_t n = w->each;
     switch (w->call) {
     case READ:
-        for (size_t k = 0; k < w->times; k++) s->answers[k % CALLS] = l->read(LENT(&s->state), &list.words[k * n], n);
+        for (size_t k = 0; k < w->times; k++)
+            s->answers[k % CALLS] = l->read(LENT(&s->state), &list.words[k * n], n, &s->differences[k % CALLS]);
         break;
     case OPEN:
         for (size_t k = 0; k < w->times; k++) s->answers[k] = l->open(LENT(&s->state), LENT(&s->spare), s->reader);
@@ -122,7 +127,8 @@ static void one_round(const struct workload *w, const struct library *l, struct 
         for (size_t k = 0; k < w->times; k++) s->answers[k % CALLS] = feed_all(l, s, &list.words[k * n], n, w->part);
         break;
     case CLOSE:
-        for (size_t k = 0; k < w->times; k++) s->answers[k] = l->close(LENT(&s->state), LENT(&s->spare), s->reader);
+        for (size_t k = 0; k < w->times; k++)
+            s->answers[k] = l->close(LENT(&s->state), LENT(&s->spare), s->reader, &s->differences[k]);
         break;
     case WRITE:
         for (size_t k = 0; k < n * w->times; k++)

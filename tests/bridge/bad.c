@@ -4,11 +4,13 @@
 #define UNUSED(x) (void)(x)
 #define STATE_UNUSED UNUSED(cells), UNUSED(n), UNUSED(fog), UNUSED(m), UNUSED(light), UNUSED(k)
 
-uint64_t pica_read(uint32_t *cells, size_t n, uint32_t *fog, size_t m, uint32_t *light, size_t k, const uint32_t *list, size_t length) {
+uint64_t pica_read(uint32_t *cells, size_t n, uint32_t *fog, size_t m, uint32_t *light, size_t k, const uint32_t *list, size_t length,
+                   uint32_t differences[1]) {
     STATE_UNUSED, UNUSED(list), UNUSED(length);
     if (BAD == 1) cells[n] = 1;
     if (BAD == 2) *(cells - 1) = 1;
     if (BAD == 3) *(uint32_t *)list ^= 1;
+    if (BAD == 7) differences[1] = 1;
     return 0;
 }
 
@@ -59,7 +61,8 @@ uint64_t pica_feed(uint32_t *cells, size_t n, uint32_t *fog, size_t m, uint32_t 
 }
 
 uint64_t pica_close(uint32_t *cells, size_t n, uint32_t *fog, size_t m, uint32_t *light, size_t k, uint32_t *spare_cells, size_t sn,
-                    uint32_t *spare_fog, size_t sm, uint32_t *spare_light, size_t sk, uint32_t reader[PICA_READER]) {
-    STATE_UNUSED, SPARE_UNUSED;
+                    uint32_t *spare_fog, size_t sm, uint32_t *spare_light, size_t sk, uint32_t reader[PICA_READER],
+                    uint32_t differences[1]) {
+    STATE_UNUSED, SPARE_UNUSED, UNUSED(differences);
     return 0;
 }

@@ -85,8 +85,9 @@ static uint64_t call(enum which which, const struct buffer b[LENT], const uint32
 
 #define STATE(changes) {(uint32_t *)cells, n, changes}, {(uint32_t *)fog, m, changes}, {(uint32_t *)light, k, changes}
 
-uint64_t pica_read(uint32_t *cells, size_t n, uint32_t *fog, size_t m, uint32_t *light, size_t k, const uint32_t *list, size_t length) {
-    return call(READ, (struct buffer[LENT]){STATE(1), {(uint32_t *)list, length, 0}}, NULL);
+uint64_t pica_read(uint32_t *cells, size_t n, uint32_t *fog, size_t m, uint32_t *light, size_t k, const uint32_t *list, size_t length,
+                   uint32_t differences[1]) {
+    return call(READ, (struct buffer[LENT]){STATE(1), {(uint32_t *)list, length, 0}, {differences, 1, 1}}, NULL);
 }
 
 uint64_t pica_write(uint32_t *cells, size_t n, uint32_t *fog, size_t m, uint32_t *light, size_t k, uint32_t id, uint32_t mask,
@@ -128,6 +129,7 @@ uint64_t pica_feed(uint32_t *cells, size_t n, uint32_t *fog, size_t m, uint32_t 
 }
 
 uint64_t pica_close(uint32_t *cells, size_t n, uint32_t *fog, size_t m, uint32_t *light, size_t k, uint32_t *spare_cells, size_t sn,
-                    uint32_t *spare_fog, size_t sm, uint32_t *spare_light, size_t sk, uint32_t reader[PICA_READER]) {
-    return call(CLOSE, (struct buffer[LENT]){STATE(1), SPARE, {reader, PICA_READER, 1}}, NULL);
+                    uint32_t *spare_fog, size_t sm, uint32_t *spare_light, size_t sk, uint32_t reader[PICA_READER],
+                    uint32_t differences[1]) {
+    return call(CLOSE, (struct buffer[LENT]){STATE(1), SPARE, {reader, PICA_READER, 1}, {differences, 1, 1}}, NULL);
 }

@@ -43,7 +43,7 @@ static uint64_t answer(struct call *c) {
     /* null for an empty buffer, as the header allows: the library must not look there */
     for (int k = 0; k < LENT; k++) w[k] = l[k].length ? c->words + l[k].at : NULL;
     switch (c->which) {
-    case READ: return pica_read(STATE, w[3], l[3].length);
+    case READ: return pica_read(STATE, w[3], l[3].length, w[4]);
     case WRITE: return pica_write(STATE, c->numbers[0], c->numbers[1], c->numbers[2]);
     case WRITES: return pica_writes(STATE, w[3], l[3].length);
     case PACK: return pica_pack(STATE, w[3], l[3].length);
@@ -51,7 +51,7 @@ static uint64_t answer(struct call *c) {
     case FRAGMENT: return pica_fragment(STATE, w[3], w[4]);
     case OPEN: return pica_open(STATE, SPARE, w[6]);
     case FEED: return pica_feed(STATE, w[3], w[4], l[4].length);
-    default: return pica_close(STATE, SPARE, w[6]);
+    default: return pica_close(STATE, SPARE, w[6], w[7]);
     }
 }
 

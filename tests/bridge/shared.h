@@ -7,7 +7,7 @@
 
 #include <stdint.h>
 
-enum { LENT = 7, NUMBERS = 3, ROOM = 1 << 20 };
+enum { LENT = 8, NUMBERS = 3, ROOM = 1 << 20 };
 enum which { READ, WRITE, WRITES, PACK, DECODE, FRAGMENT, OPEN, FEED, CLOSE };
 
 struct lent {

@@ -15,6 +15,20 @@ const NUMBERS: usize = 23;
 /// The refusals that a whole run has to meet. 11 and 15 to 21 aren't used.
 const REFUSALS: [usize; 14] = [1, 2, 3, 4, 5, 6, 7, 8, 9, 10, 12, 13, 14, 22];
 
+/// What a call gave back, and how many writes of its list made a difference,
+/// where it has a list that wasn't refused.
+#[derive(Clone, Copy)]
+pub struct Answer {
+    pub given: u64,
+    pub differences: u32,
+}
+
+impl Answer {
+    fn number(&self) -> usize {
+        (self.given >> 32) as usize
+    }
+}
+
 #[derive(Clone, Default)]
 pub struct Tally {
     cases: [u64; KINDS.len()],
@@ -22,21 +36,44 @@ pub struct Tally {
     refused: [u64; NUMBERS],
     verdicts: [u64; 4],
     closes: [u64; 7],
+    /// Of the lists with writes, read at once and in pieces: how many made no
+    /// difference, some, and one with each write.
+    read: [u64; 3],
+    in_pieces: [u64; 3],
+    /// Single writes, by their answer.
+    alone: [u64; 2],
+}
+
+/// Counts a list that was read.
+fn count_differences(lists: &mut [u64; 3], writes: usize, differences: usize) {
+    match differences {
+        _ if writes == 0 => {}
+        0 => lists[0] += 1,
+        all if all == writes => lists[2] += 1,
+        _ => lists[1] += 1,
+    }
 }
 
 impl Tally {
     /// Counts a case: a call's answer, or a session's closes, of which the last
     /// one says whether the session was answered.
-    fn count(&mut self, kind: Kind, answers: &[u64]) {
+    fn count(&mut self, kind: Kind, answers: &[Answer]) {
         self.cases[kind as usize] += 1;
         self.answered[kind as usize] +=
-            u64::from(answers.last().is_some_and(|last| last >> 32 == 0));
+            u64::from(answers.last().is_some_and(|last| last.number() == 0));
         for answer in answers {
-            let (number, low) = ((answer >> 32) as usize, *answer as u32 as usize);
+            let (number, low) = (answer.number(), answer.given as u32 as usize);
+            let differences = answer.differences as usize;
             self.refused[number] += 1;
+            if kind == Kind::Pieces {
+                self.closes[number] += 1;
+            }
             match kind {
-                Kind::Fragment if number == 0 => self.verdicts[low] += 1,
-                Kind::Pieces => self.closes[number] += 1,
+                _ if number != 0 => {}
+                Kind::Fragment => self.verdicts[low] += 1,
+                Kind::Read => count_differences(&mut self.read, low, differences),
+                Kind::Pieces => count_differences(&mut self.in_pieces, low, differences),
+                Kind::Write => self.alone[low] += 1,
                 _ => {}
             }
         }
@@ -51,6 +88,9 @@ impl Tally {
         pairs(&mut self.refused, &other.refused);
         pairs(&mut self.verdicts, &other.verdicts);
         pairs(&mut self.closes, &other.closes);
+        pairs(&mut self.read, &other.read);
+        pairs(&mut self.in_pieces, &other.in_pieces);
+        pairs(&mut self.alone, &other.alone);
     }
 
     pub fn text(&self) -> String {
@@ -59,13 +99,19 @@ impl Tally {
             format!("{name} {cases} ({answered} answered)")
         });
         let refused = REFUSALS.map(|number| format!("{number}:{}", self.refused[number]));
-        let verdicts = self.verdicts.map(|count| count.to_string());
-        let closes = self.closes.map(|count| count.to_string());
+        let row = |counts: &[u64]| -> String {
+            let counts: Vec<String> = counts.iter().map(u64::to_string).collect();
+            counts.join("/")
+        };
         format!(
-            "{}; verdicts {}; closes {}; refused {}",
+            "{}; verdicts {}; closes {}; differences by none, some, all writes {}, in pieces {}, \
+             single writes without, with {}; refused {}",
             kinds.join(", "),
-            verdicts.join("/"),
-            closes.join("/"),
+            row(&self.verdicts),
+            row(&self.closes),
+            row(&self.read),
+            row(&self.in_pieces),
+            row(&self.alone),
             refused.join(" ")
         )
     }
@@ -94,6 +140,19 @@ impl Tally {
                 lacks.push(format!("close with {number} not met"));
             }
         }
+        let judged: [(&str, &[u64]); 3] = [
+            ("lists", &self.read),
+            ("lists in pieces", &self.in_pieces),
+            ("single writes", &self.alone),
+        ];
+        for (name, counts) in judged {
+            let all: u64 = counts.iter().sum();
+            if counts.iter().any(|count| count * 20 < all) {
+                lacks.push(format!(
+                    "under a twentieth of {name} of a kind by differences"
+                ));
+            }
+        }
         lacks
     }
 }
@@ -109,8 +168,8 @@ fn call(machine: &Machine, case: &Case, memory: &mut Memory) -> u64 {
     let state = parts(state, case.state);
     match case.kind {
         Kind::Read => {
-            let [list] = parts(lent, [case.lent[0]]);
-            (machine.read)(state, list)
+            let [list, differences] = parts(lent, [case.lent[0], case.lent[1]]);
+            (machine.read)(state, list, differences.try_into().expect("one word"))
         }
         Kind::Write => (machine.write)(state, case.write),
         Kind::Writes => {
@@ -184,7 +243,7 @@ pub fn same(library: u64, model: u64, word: Option<String>) -> Result<(), String
 
 fn word_text(case: &Case, library: &Memory, model: &Memory) -> Option<String> {
     let names: &[&str] = match case.kind {
-        Kind::Read => &["list"],
+        Kind::Read => &["list", "differences"],
         Kind::Write => &[],
         Kind::Writes => &["list", "ids", "masks", "values"],
         Kind::Pack => &["ids", "masks", "values", "space"],
@@ -279,15 +338,20 @@ impl<'a> Pair<'a> {
     }
 
     /// What was answered; or how the two machines differ.
-    fn run_case(&mut self, case: &Case) -> Result<Vec<u64>, String> {
+    fn run_case(&mut self, case: &Case) -> Result<Vec<Answer>, String> {
         let memories = [&mut self.library_memory, &mut self.model_memory];
         if case.kind == Kind::Pieces {
             return sessions::run([self.library, self.model], case, memories);
         }
         let [left, right] = memories;
         let library = call(self.library, case, left);
-        let model = call(self.model, case, right);
-        same(library, model, word_text(case, left, right)).map(|()| vec![model])
+        let given = call(self.model, case, right);
+        same(library, given, word_text(case, left, right))?;
+        let differences = match case.kind {
+            Kind::Read => parts(&mut right.lent, [case.lent[0], case.lent[1]])[1][0],
+            _ => 0,
+        };
+        Ok(vec![Answer { given, differences }])
     }
 }
 

@@ -13,6 +13,7 @@ extern "C" {
         light_length: usize,
         list: *const u32,
         list_length: usize,
+        differences: *mut u32,
     ) -> u64;
     fn pica_write(
         cells: *mut u32,
@@ -104,6 +105,7 @@ extern "C" {
         spare_light: *mut u32,
         spare_light_length: usize,
         reader: *mut u32,
+        differences: *mut u32,
     ) -> u64;
 }
 
@@ -119,7 +121,7 @@ fn start(buffer: &mut [u32]) -> *mut u32 {
     buffer.as_mut_ptr()
 }
 
-fn read([cells, fog, light]: Lent, list: &mut [u32]) -> u64 {
+fn read([cells, fog, light]: Lent, list: &mut [u32], differences: &mut [u32; 1]) -> u64 {
     unsafe {
         pica_read(
             start(cells),
@@ -130,6 +132,7 @@ fn read([cells, fog, light]: Lent, list: &mut [u32]) -> u64 {
             light.len(),
             start(list),
             list.len(),
+            differences.as_mut_ptr(),
         )
     }
 }
@@ -247,7 +250,7 @@ fn feed([cells, fog, light]: Lent, reader: Reader, part: &mut [u32]) -> u64 {
     }
 }
 
-fn close(live: Lent, spare: Lent, reader: Reader) -> u64 {
+fn close(live: Lent, spare: Lent, reader: Reader, differences: &mut [u32; 1]) -> u64 {
     let [cells, fog, light] = live;
     let [spare_cells, spare_fog, spare_light] = spare;
     unsafe {
@@ -265,6 +268,7 @@ fn close(live: Lent, spare: Lent, reader: Reader) -> u64 {
             start(spare_light),
             spare_light.len(),
             reader.words.as_mut_ptr(),
+            differences.as_mut_ptr(),
         )
     }
 }

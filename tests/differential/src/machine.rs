@@ -11,7 +11,7 @@ pub type Lent<'a> = [&'a mut [u32]; 3];
 /// granted, and the comparison could miss it.
 #[derive(Clone, Copy)]
 pub struct Machine {
-    pub read: fn(Lent, &mut [u32]) -> u64,
+    pub read: fn(Lent, &mut [u32], &mut [u32; 1]) -> u64,
     pub write: fn(Lent, [u32; 3]) -> u64,
     pub writes: fn(&mut [u32], Lent) -> u64,
     pub pack: fn(Lent, &mut [u32]) -> u64,
@@ -19,13 +19,15 @@ pub struct Machine {
     pub fragment: fn(Lent, &mut [u32; 11], &mut [u32; 3]) -> u64,
     pub open: fn(Lent, Lent, Reader) -> u64,
     pub feed: fn(Lent, Reader, &mut [u32]) -> u64,
-    pub close: fn(Lent, Lent, Reader) -> u64,
+    pub close: fn(Lent, Lent, Reader, &mut [u32; 1]) -> u64,
 }
 
 impl Machine {
     pub fn model<const F: u32>() -> Machine {
         Machine {
-            read: |[cells, fog, light], list| model::read::<F>(cells, fog, light, list),
+            read: |[cells, fog, light], list, differences| {
+                model::read::<F>(cells, fog, light, list, differences)
+            },
             write: |[cells, fog, light], [id, mask, value]| {
                 model::write::<F>(cells, fog, light, id, mask, value)
             },
@@ -37,7 +39,9 @@ impl Machine {
             },
             open: |live, spare, reader| model::open(NONE, live, spare, reader),
             feed: |spare, reader, part| model::feed(NONE, spare, reader, part),
-            close: |live, spare, reader| model::close(NONE, live, spare, reader),
+            close: |live, spare, reader, differences| {
+                model::close(NONE, live, spare, reader, differences)
+            },
         }
     }
 
@@ -46,7 +50,9 @@ impl Machine {
         Machine {
             open: |live, spare, reader| model::open(F, live, spare, reader),
             feed: |spare, reader, part| model::feed(F, spare, reader, part),
-            close: |live, spare, reader| model::close(F, live, spare, reader),
+            close: |live, spare, reader, differences| {
+                model::close(F, live, spare, reader, differences)
+            },
             ..Machine::model::<NONE>()
         }
     }

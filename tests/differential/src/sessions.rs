@@ -1,27 +1,39 @@
 //! Runs a session on two machines: after each call the answers and all that it
 //! may have changed are compared.
 
-use crate::compare::{first_word, same, Buffers};
+use crate::compare::{first_word, same, Answer, Buffers};
 use crate::generate::pieces::{Call, Place, Step};
 use crate::generate::Case;
 use crate::machine::Machine;
 use crate::memory::{first_and, parts, Memory, GUARD, STATE_LENGTHS};
 use crate::model::{faults::NONE, take, Fed, Reader};
 
+/// The reader, then the word for the differences, then the parts.
+const DIFFERENCES: usize = 1;
+const FIRST_PART: usize = 2;
+
 fn call(machine: &Machine, case: &Case, step: &Step, memory: &mut Memory, fed: &mut Fed) -> u64 {
     let Memory { state, spare, lent } = memory;
     let (live, spare) = (parts(state, step.live), parts(spare, step.spare));
-    let (words, part) = match step.call {
-        Call::Feed(part) => first_and(lent, &case.lent, part + 1),
-        Call::Open | Call::Close => (&mut lent[GUARD..][..case.lent[0]], &mut [][..]),
+    let beside = match step.call {
+        Call::Feed(part) => FIRST_PART + part,
+        Call::Open | Call::Close => DIFFERENCES,
     };
-    let words = words.try_into().expect("11 words of a reader");
+    let (words, beside) = first_and(lent, &case.lent, beside);
+    let words = words.try_into().expect("12 words of a reader");
     let reader = Reader { words, fed };
     match step.call {
         Call::Open => (machine.open)(live, spare, reader),
-        Call::Feed(_) => (machine.feed)(spare, reader, part),
-        Call::Close => (machine.close)(live, spare, reader),
+        Call::Feed(_) => (machine.feed)(spare, reader, beside),
+        Call::Close => {
+            let differences = beside.try_into().expect("one word");
+            (machine.close)(live, spare, reader, differences)
+        }
     }
+}
+
+fn differences<'a>(case: &Case, memory: &'a mut Memory) -> &'a mut u32 {
+    &mut first_and(&mut memory.lent, &case.lent, DIFFERENCES).1[0]
 }
 
 fn store(memory: &mut Memory, (place, word): (Place, u32)) {
@@ -58,6 +70,7 @@ fn word_text(case: &Case, step: &Step, library: &Memory, model: &Memory) -> Opti
     };
     let mut names = vec!["part"; case.lent.len()];
     names[0] = "reader";
+    names[DIFFERENCES] = "differences";
     let lent = Buffers {
         names: &names,
         lengths: &case.lent,
@@ -76,7 +89,7 @@ pub fn run(
     [library, model]: [&Machine; 2],
     case: &Case,
     [left, right]: [&mut Memory; 2],
-) -> Result<Vec<u64>, String> {
+) -> Result<Vec<Answer>, String> {
     left.spare.copy_from_slice(&right.spare);
     let mut fed = Fed::default();
     let mut closes = Vec::new();
@@ -86,8 +99,11 @@ pub fn run(
             store(right, *stray);
             fed.known = false;
         }
+        *differences(case, left) = step.differences;
+        *differences(case, right) = step.differences;
         let known = fed.known;
         fed.told = call(library, case, step, left, &mut Fed::default());
+        fed.told_differences = *differences(case, left);
         let answer = call(model, case, step, right, &mut fed);
         if matches!(step.call, Call::Feed(_)) && answer >> 32 == 0 {
             adopt(left, right, case);
@@ -95,7 +111,10 @@ pub fn run(
         same(fed.told, answer, word_text(case, step, left, right))
             .map_err(|difference| format!("call {number}, {step:?}: {difference}"))?;
         if step.call == Call::Close && known {
-            closes.push(answer);
+            closes.push(Answer {
+                given: answer,
+                differences: *differences(case, right),
+            });
         }
     }
     Ok(closes)
@@ -116,7 +135,7 @@ mod tests {
         fresh_state(&mut random, &mut memory);
         loop {
             let case = next_case(&mut random, &mut memory);
-            if case.kind == Kind::Pieces && case.lent.len() > 2 {
+            if case.kind == Kind::Pieces && case.lent.len() > FIRST_PART + 1 {
                 return (case, memory);
             }
         }
@@ -183,7 +202,7 @@ mod tests {
     fn refusing() -> Machine {
         Machine {
             feed: |_, reader, part| answers(reader, part.len() as u32),
-            close: |live, spare, reader| closed(live, spare, reader, 3),
+            close: |live, spare, reader, _| closed(live, spare, reader, 3),
             ..Machine::model::<NONE>()
         }
     }
@@ -198,6 +217,8 @@ mod tests {
         *reader.words = [0; READER];
         number << 32
     }
+
+    type Close = fn(Lent, Lent, Reader, &mut [u32; 1]) -> u64;
 
     /// Whether a session that nobody opened shows no difference.
     fn passes(library: &Machine) -> bool {
@@ -240,32 +261,39 @@ mod tests {
 
     #[test]
     fn what_no_close_may_do_is_told() {
-        let accepting: fn(Lent, Lent, Reader) -> u64 =
-            |live, spare, reader| closed(spare, live, reader, 0);
+        let accepting: Close = |live, spare, reader, differences| {
+            differences[0] = 5;
+            closed(spare, live, reader, 0)
+        };
         let close = accepting;
         assert!(passes(&Machine {
             close,
             ..refusing()
         }));
-        let closes: [fn(Lent, Lent, Reader) -> u64; 7] = [
-            |live, spare, reader| closed(live, spare, reader, 6),
-            |live, spare, reader| closed(live, spare, reader, 7),
+        let closes: [Close; 8] = [
+            |live, spare, reader, _| closed(live, spare, reader, 6),
+            |live, spare, reader, _| closed(live, spare, reader, 7),
             // The wrong state takes the other's values, or none does.
-            |live, spare, reader| closed(live, spare, reader, 0),
-            |live, spare, reader| closed(spare, live, reader, 2),
-            |_, _, reader| {
+            |live, spare, reader, _| closed(live, spare, reader, 0),
+            |live, spare, reader, _| closed(spare, live, reader, 2),
+            |_, _, reader, _| {
                 *reader.words = [0; READER];
                 2 << 32
             },
             // The reader isn't fresh.
-            |live, mut spare, _| {
+            |live, mut spare, _, _| {
                 take(NONE, &mut spare, &live);
                 2 << 32
             },
             // The live state changes beside what it holds.
-            |[cells, fog, light], spare, reader| {
+            |[cells, fog, light], spare, reader, _| {
                 light[6143] ^= 1 << 31;
                 closed(spare, [cells, fog, light], reader, 0)
+            },
+            // A refusal gives differences.
+            |live, spare, reader, differences| {
+                differences[0] ^= 1;
+                closed(live, spare, reader, 3)
             },
         ];
         for close in closes {

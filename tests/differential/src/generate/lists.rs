@@ -1,5 +1,6 @@
 //! Lists of commands, good and bad.
 
+use super::restated::{restate_some, Foreseen};
 use super::words;
 use crate::memory::Memory;
 use crate::model::{allowed, faults::NONE};
@@ -273,8 +274,11 @@ pub fn short_list(random: &mut Random) -> Vec<u32> {
     list
 }
 
+/// The list, and the word for the differences with garbage in it.
 pub fn lend_list(random: &mut Random, memory: &mut Memory) -> Vec<usize> {
-    let list = list(random);
-    memory.lend(random, &[&list]);
-    vec![list.len()]
+    let mut list = list(random);
+    restate_some(random, &mut list, &mut Foreseen::of(memory));
+    let differences = [random.word()];
+    memory.lend(random, &[&list, &differences]);
+    vec![list.len(), 1]
 }

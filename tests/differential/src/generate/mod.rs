@@ -5,6 +5,7 @@ mod cuts;
 mod lists;
 pub mod pieces;
 mod places;
+mod restated;
 mod states;
 mod words;
 mod writes;
@@ -83,6 +84,7 @@ fn lend(random: &mut Random, case: &mut Case, memory: &mut Memory) -> Vec<usize>
         }
         Kind::Write => {
             states::set_indices(random, memory.cells());
+            case.write[2] = restated::value_alone(random, case.write, memory);
             memory.lend(random, &[]);
             Vec::new()
         }

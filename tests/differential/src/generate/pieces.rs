@@ -1,6 +1,7 @@
 //! Sessions: a reader is opened, fed the parts of a list and closed, perhaps
 //! with calls of wrong lengths between, and with words that someone else wrote.
 
+use super::restated::{restate_some, Foreseen};
 use super::{cuts, wrong_lengths};
 use crate::memory::{Memory, STATE_LENGTHS};
 use crate::model::{HELD, READER};
@@ -28,6 +29,8 @@ pub struct Step {
     pub live: [usize; 3],
     pub spare: [usize; 3],
     pub strays: Vec<(Place, u32)>,
+    /// What stands where a close puts the differences.
+    pub differences: u32,
 }
 
 impl Step {
@@ -37,20 +40,22 @@ impl Step {
             live: STATE_LENGTHS,
             spare: STATE_LENGTHS,
             strays: Vec::new(),
+            differences: 0,
         }
     }
 }
 
 /// The calls for one list after another. Mostly only the first one opens: a
 /// close leaves the reader fresh.
-fn steps(random: &mut Random, parts: &mut Vec<Vec<u32>>) -> Vec<Step> {
+fn steps(random: &mut Random, parts: &mut Vec<Vec<u32>>, live: &mut Foreseen) -> Vec<Step> {
     let mut steps = Vec::new();
     let mut open = random.chance(15, 16);
     for _ in 0..random.pick(&[1, 1, 1, 2]) {
         if open {
             steps.push(Step::new(Call::Open));
         }
-        let list = cuts::list(random);
+        let mut list = cuts::list(random);
+        restate_some(random, &mut list, live);
         for part in cuts::parts(random, &list) {
             parts.push(part);
             steps.push(Step::new(Call::Feed(parts.len() - 1)));
@@ -135,7 +140,7 @@ pub fn lend_session(random: &mut Random, memory: &mut Memory) -> (Vec<Step>, Vec
     let zeros = random.chance(1, 4);
     let reader = [0; READER].map(|_| if zeros { 0 } else { reader_word(random) });
     let mut parts = Vec::new();
-    let mut steps = steps(random, &mut parts);
+    let mut steps = steps(random, &mut parts, &mut Foreseen::of(memory));
     if random.chance(1, 8) {
         let number = random.below(steps.len() as u32) as usize;
         steps[number].strays = strays(random);
@@ -145,7 +150,12 @@ pub fn lend_session(random: &mut Random, memory: &mut Memory) -> (Vec<Step>, Vec
     if random.chance(1, if long { 2 } else { 5 }) {
         add_wrong_lengths(random, &mut steps);
     }
-    let mut buffers = vec![&reader[..]];
+    for step in &mut steps {
+        step.differences = random.word();
+    }
+    // Each call has its own word there.
+    let differences = [0];
+    let mut buffers = vec![&reader[..], &differences];
     buffers.extend(parts.iter().map(Vec::as_slice));
     memory.lend(random, &buffers);
     let lengths = buffers.iter().map(|buffer| buffer.len()).collect();

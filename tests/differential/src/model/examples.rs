@@ -18,8 +18,13 @@ impl State {
         }
     }
 
-    fn read(&mut self, list: &[u32]) -> u64 {
-        read::<NONE>(&mut self.cells, &mut self.fog, &mut self.light, list)
+    /// What is answered, and what then stands where the differences go, where 9
+    /// stood before.
+    fn read(&mut self, list: &[u32]) -> (u64, u32) {
+        let (cells, fog, light) = (&mut self.cells, &mut self.fog, &mut self.light);
+        let mut differences = [9];
+        let answer = read::<NONE>(cells, fog, light, list, &mut differences);
+        (answer, differences[0])
     }
 
     fn write(&mut self, id: u32, mask: u32, value: u32) -> u64 {
@@ -66,18 +71,18 @@ fn packed(ids: &[u32]) -> Vec<u32> {
 fn reading() {
     let mut state = State::zero();
     let list = [0xAAAA_AAAA, 0x802F_011C, 0xBBBB_BBBB, 0xCCCC_CCCC];
-    assert_eq!(state.read(&list), 3);
-    assert_eq!(state.read(&[1, 0x801F_02FE, 2, 3]), 2);
-    assert_eq!(state.read(&[1, 0x802F_02FE, 2, 3]), refusal(3, 0));
-    assert_eq!(state.read(&[1, 0x801F_023B, 2, 3]), refusal(4, 0));
-    assert_eq!(state.read(&[]), 0);
+    assert_eq!(state.read(&list), (3, 0));
+    assert_eq!(state.read(&[1, 0x801F_02FE, 2, 3]), (2, 0));
+    assert_eq!(state.read(&[1, 0x802F_02FE, 2, 3]), (refusal(3, 0), 9));
+    assert_eq!(state.read(&[1, 0x801F_023B, 2, 3]), (refusal(4, 0), 9));
+    assert_eq!(state.read(&[]), (0, 0));
 }
 
 #[test]
 fn masks() {
     for (mask, left) in [(1, 0x71), (2, 0x1F00)] {
         let mut state = State::zero();
-        assert_eq!(state.write(0x107, mask, 0x1F71), 0);
+        assert_eq!(state.write(0x107, mask, 0x1F71), 1);
         assert_eq!(state.cells[0x107], left);
     }
 }
@@ -86,8 +91,75 @@ fn masks() {
 fn fog_port() {
     let mut state = State::zero();
     state.cells[0xE6] = 127;
-    assert_eq!(state.read(&[5, 0x001F_00E8, 6, 0]), 2);
+    assert_eq!(state.read(&[5, 0x001F_00E8, 6, 0]), (2, 2));
     assert_eq!((state.fog[127], state.fog[0], state.cells[0xE6]), (5, 6, 1));
+}
+
+/// What single writes answer, one after the other.
+fn answers(state: &mut State, writes: &[(u32, u32, u32)]) -> Vec<u64> {
+    let answer = |&(id, mask, value): &_| state.write(id, mask, value);
+    writes.iter().map(answer).collect()
+}
+
+#[test]
+fn a_write_that_makes_a_difference() {
+    let mut state = State::zero();
+    let held = [
+        (0x107, 0xF, 0x1F71),
+        // Equal bits; equal in the held ones; equal in the mask's byte.
+        (0x107, 0xF, 0x1F71),
+        (0x107, 0xF, 0xFFFF_FFFF),
+        (0x107, 1, 0x71),
+        // One byte of two differs, then the other one.
+        (0x107, 3, 0x1F70),
+        (0x107, 3, 0x1E70),
+        // Bytes that hold nothing, mask 0, and an id that isn't held.
+        (0x107, 0xC, 0),
+        (0x107, 0, 0),
+        (0x108, 0xF, 1),
+    ];
+    assert_eq!(answers(&mut state, &held), [1, 0, 0, 0, 1, 1, 0, 0, 0]);
+    // What stands beside the held bits doesn't count, nor in a cell that isn't held.
+    state.cells[0x107] |= 0xFFFF_E08E;
+    state.cells[0x108] = 5;
+    let garbage = [(0x107, 0xF, 0x1E70), (0x108, 0xF, 0), (0x23F, 0xF, 7)];
+    assert_eq!(answers(&mut state, &garbage), [0, 0, 0]);
+    let ports = [
+        // Entry 0 has the value already, and so has entry 1.
+        (0xE8, 0xF, 0),
+        (0xE8, 0xF, 0xFF00_0000),
+        // The index with its own value, and with another one.
+        (0xE6, 0xF, 0x82),
+        (0xE6, 0xF, 1),
+        // Tables 2 and 1Fh have no name.
+        (0x1C5, 0xF, 0x200),
+        (0x1C8, 0xF, 3),
+        (0x1C5, 0xF, 0x1FFF),
+        (0x1CF, 0xF, 0),
+        (0x1C5, 0xF, 0x1F00),
+    ];
+    assert_eq!(answers(&mut state, &ports), [1, 1, 0, 1, 1, 1, 1, 1, 0]);
+    assert_eq!(state.write(0xE8, 0xE, 1), refusal(5, 0));
+}
+
+#[test]
+fn differences_of_a_list() {
+    let mut state = State::zero();
+    // Each write is judged on what those before it left: 1, 1, 2, 1, 1.
+    let list = [1, 0x004F_0041, 1, 2, 1, 1];
+    assert_eq!(state.read(&list), (5, 3));
+    assert_eq!(state.read(&list), (5, 2));
+    // Rising ids: 41 holds 1, and 43 no bit of its value.
+    let list = [1, 0x803F_0041, 3, 0xFF00_0000, 4, 0];
+    assert_eq!(state.read(&list), (4, 2));
+    assert_eq!(state.read(&list), (4, 0));
+    // Port data counts each time, and a refused list gives nothing.
+    let list = [0, 0x001F_01C8, 0, 0, 1, 0x000F_023C];
+    assert_eq!(state.read(&list[..4]), (2, 2));
+    assert_eq!(state.read(&list), (refusal(4, 4), 9));
+    assert_eq!(state.read(&list[..3]), (refusal(2, 0), 9));
+    state.fog.pop();
+    assert_eq!(state.read(&[]), (refusal(6, 0), 9));
 }
 
 #[test]

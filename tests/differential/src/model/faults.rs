@@ -205,6 +205,33 @@ faults! {
     153 WRITES_ANSWER_COMMANDS "writes: answer counts commands";
     154 WRITES_AT_MOST_4096 "writes: over 4,096 of them refused with 8";
 
+    // Whether a write made a difference
+    188 DIFFERENCE_EQUAL_BITS "difference: told for equal bits";
+    189 DIFFERENCE_EVERY_BYTE "difference: told only where every byte of the mask differs";
+    190 DIFFERENCE_LOWEST_BYTE "difference: only the mask's lowest byte compared";
+    191 DIFFERENCE_OTHER_BYTES "difference: bytes outside the mask compared too";
+    192 DIFFERENCE_UNHELD_BITS "difference: bits beside the held ones compared too";
+    193 DIFFERENCE_UNHELD_ID "difference: told for an id that isn't held";
+    194 DIFFERENCE_MASK_0 "difference: told for mask 0";
+    195 DIFFERENCE_INDEX "difference: told for every write to a port's index";
+    196 DIFFERENCE_ENTRY_ONLY "difference: port data only where its entry changes";
+    197 DIFFERENCE_UNNAMED "difference: none for an unnamed table's data";
+    198 ALONE_NO_DIFFERENCE "single write: 0 whether it made a difference or not";
+
+    // How many writes of a list did
+    199 DIFFERENCES_BEFORE_LIST "differences: judged on the state before the list";
+    200 DIFFERENCES_AFTER_LIST "differences: judged by the state after the list";
+    201 DIFFERENCES_LAST_WRITE "differences: only the last write of a command to one id";
+    202 DIFFERENCES_COMMANDS "differences: commands counted";
+    203 DIFFERENCES_ARE_WRITES "differences: all writes counted";
+    204 DIFFERENCES_SWAPPED "differences: answered, and the writes in their place";
+    205 DIFFERENCES_DATA_TWICE "differences: port data counted by its entry and its index";
+    206 DIFFERENCES_DATA_RUN "differences: a run of port data counted once";
+    207 DIFFERENCES_ADDED "differences: added to what stood there";
+    208 DIFFERENCES_NONE_KEPT "differences: the word kept where there are none";
+    209 DIFFERENCES_REFUSED "differences: a refused list's given";
+    210 DIFFERENCES_REFUSED_0 "differences: 0 given for a refused list";
+
     // Lists that arrive in pieces
     pieces:
     155 PIECES_FAULT_BEATS_MISSING "pieces: a write at fault beats its command's missing words";
@@ -240,4 +267,19 @@ faults! {
     185 PIECES_OPEN_LIVE_LIGHT "pieces: opening doesn't test the live state's light length";
     186 PIECES_FEED_LIGHT "pieces: a feed doesn't test the light length";
     187 PIECES_CLOSE_SPARE_LIGHT "pieces: close doesn't test the spare state's light length";
+
+    // How many writes of such a list made a difference
+    211 PIECES_DIFFERENCES_GO_ON "pieces: differences of the list before counted too";
+    212 PIECES_DIFFERENCES_REOPENED "pieces: differences before another opening counted too";
+    213 PIECES_DIFFERENCES_LAST_PART "pieces: differences of the last part only";
+    214 PIECES_DIFFERENCES_FIRST_PART "pieces: differences of the first part only";
+    215 PIECES_DIFFERENCES_CUT_LOST "pieces: no differences after a cut in a command";
+    216 PIECES_DIFFERENCES_CUT_TOLD "pieces: the first write after a cut in a command is one";
+    217 PIECES_DIFFERENCES_SPARE "pieces: differences judged on the spare state's whole words";
+    218 PIECES_DIFFERENCES_LIVE "pieces: differences judged on the live state alone";
+    219 PIECES_DIFFERENCES_TAKEN "pieces: differences are the words that the live state takes";
+    220 PIECES_DIFFERENCES_ARE_WRITES "pieces: all writes counted as differences";
+    221 PIECES_DIFFERENCES_REFUSED "pieces: a refused list's differences given";
+    222 PIECES_DIFFERENCES_REFUSED_0 "pieces: 0 differences given for a refused list";
+    223 PIECES_DIFFERENCES_6 "pieces: differences given by a close refused with 6";
 }

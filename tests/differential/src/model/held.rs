@@ -2,6 +2,7 @@
 
 use super::commands::Write;
 use super::faults::*;
+use super::misjudged::Touched;
 
 const FLOAT: u32 = 0xFF_FFFF;
 const ALL: u32 = 0xFFFF_FFFF;
@@ -81,7 +82,7 @@ pub const HELD: [(u32, u32); 66] = [
 ];
 
 /// The bits that an id holds; none for an id that isn't in the table.
-fn held_bits<const F: u32>(id: u32) -> u32 {
+pub fn held_bits<const F: u32>(id: u32) -> u32 {
     let mut held = 0;
     for (row, bits) in HELD {
         if row == id {
@@ -99,7 +100,7 @@ fn held_bits<const F: u32>(id: u32) -> u32 {
 }
 
 /// The bits of the bytes whose mask bit is 1.
-fn mask_bits<const F: u32>(mask: u32) -> u32 {
+pub fn mask_bits<const F: u32>(mask: u32) -> u32 {
     let mut bits = 0;
     for byte in 0..4 {
         if mask >> byte & 1 == 1 {
@@ -114,18 +115,25 @@ fn mask_bits<const F: u32>(mask: u32) -> u32 {
     bits
 }
 
-pub fn write_held<const F: u32>(cells: &mut [u32], write: Write) {
+/// Gives whether the cell differs afterwards.
+pub fn write_held<const F: u32>(cells: &mut [u32], write: Write) -> bool {
     let written = mask_bits::<F>(write.mask);
     let held = held_bits::<F>(write.id);
-    if held == 0 {
-        return;
-    }
     let replaced = written & held;
-    let cleared = if F == UNHELD_CLEARED {
+    let cleared = if F == UNHELD_CLEARED && held != 0 {
         written
     } else {
         replaced
     };
     let cell = &mut cells[write.id as usize];
-    *cell = *cell & !cleared | write.value & replaced;
+    let before = *cell;
+    *cell = before & !cleared | write.value & replaced;
+    let touched = Touched {
+        write,
+        held,
+        written,
+        before,
+        after: *cell,
+    };
+    touched.differs::<F>()
 }

@@ -117,7 +117,7 @@ pub fn left_out(fault: u32, fed: &Fed) -> bool {
 
 /// For each write, in order: the parameters of its command before it, as far as
 /// they came with its part, and whether some came with an earlier one.
-fn since_cut(fed: &Fed) -> Vec<(u32, bool)> {
+pub fn since_cut(fed: &Fed) -> Vec<(u32, bool)> {
     let mut since = Vec::new();
     for first in firsts(&fed.joined) {
         let mut before = (0, false);

@@ -11,7 +11,9 @@ mod expansion;
 pub mod faults;
 mod fragment;
 mod held;
+mod miscounted;
 mod misjoined;
+mod misjudged;
 mod names;
 mod packing;
 mod pieces;
@@ -20,14 +22,14 @@ mod pieces_examples;
 mod ports;
 mod reading;
 
-pub use commands::{allowed, firsts};
+pub use commands::{allowed, firsts, header, Write};
 pub use decoded::{decode, FIELD_COUNT};
 pub use expansion::{count_writes, writes};
 pub use fragment::fragment;
-pub use held::HELD;
+pub use held::{held_bits, mask_bits, HELD};
 pub use packing::{pack, shortest_list};
 pub use pieces::{close, feed, open, take, Fed, Reader, READER};
-pub use reading::{read, write};
+pub use reading::{apply, read, write};
 
 pub const CELLS: usize = 768;
 pub const FOG_ENTRIES: usize = 128;

@@ -4,12 +4,12 @@
 
 use super::commands::{expand, Write};
 use super::faults::*;
-use super::misjoined;
-use super::reading::{apply, list_length};
+use super::reading::{apply_all, list_length};
 use super::{given_back, refuse, state_lengths, Refusal, HELD, LIGHT_ENTRIES};
+use super::{miscounted, misjoined};
 
 /// The words of a reader.
-pub const READER: usize = 11;
+pub const READER: usize = 12;
 
 /// The words come are counted up to one more than a list may have.
 const MOST_COME: usize = 65_537;
@@ -29,6 +29,9 @@ pub struct Fed {
     /// model takes over what it was told, if that may be answered at all.
     pub known: bool,
     pub told: u64,
+    pub told_differences: u32,
+    /// Differences that a fault counts besides the list's own.
+    pub counted: u32,
 }
 
 impl Fed {
@@ -103,6 +106,10 @@ fn try_open(fault: u32, live: State, mut spare: State, mut reader: Reader) -> Re
     if fault == PIECES_SPARE_WHOLE {
         take_whole(&mut spare, &live);
     }
+    reader.fed.counted = match fault {
+        PIECES_DIFFERENCES_REOPENED if reader.fed.known => miscounted::so_far(reader.fed, &live),
+        _ => 0,
+    };
     if fault != PIECES_OPEN_GOES_ON || !reader.fed.known {
         reader.freshen();
     }
@@ -137,8 +144,14 @@ fn try_feed(fault: u32, spare: State, reader: Reader, part: &[u32]) -> Result<u3
     Ok(words[0])
 }
 
-pub fn close(fault: u32, live: State, spare: State, reader: Reader) -> u64 {
-    given_back(try_close(fault, live, spare, reader))
+pub fn close(
+    fault: u32,
+    live: State,
+    spare: State,
+    reader: Reader,
+    differences: &mut [u32; 1],
+) -> u64 {
+    given_back(try_close(fault, live, spare, reader, differences))
 }
 
 fn try_close(
@@ -146,25 +159,37 @@ fn try_close(
     mut live: State,
     mut spare: State,
     mut reader: Reader,
+    differences: &mut [u32; 1],
 ) -> Result<u32, Refusal> {
     if fault == PIECES_ORDER_1_6 {
         list_length::<NONE>(&reader.fed.joined)?;
     }
     let tested = lengths(&live).and(lengths_but_light(fault == PIECES_CLOSE_SPARE_LIGHT, &spare));
-    if fault == PIECES_6_FRESHENS && tested.is_err() {
-        reader.freshen();
+    match fault {
+        PIECES_6_FRESHENS if tested.is_err() => reader.freshen(),
+        PIECES_DIFFERENCES_6 if tested.is_err() => differences[0] = 0,
+        _ => {}
     }
     tested?;
     if fault == PIECES_SPARE_OLD {
         take(fault, &mut spare, &live);
     }
     let mut writes = Vec::new();
-    let verdict = if reader.fed.known {
-        read_joined(fault, &mut live, reader.fed, &mut writes)
+    let (verdict, made) = if reader.fed.known {
+        read_joined(fault, &mut live, &spare, reader.fed, &mut writes)
     } else {
-        take_over(&mut live, &spare, reader.fed.told)
+        take_over(&mut live, &spare, reader.fed)
     };
     leave(fault, &mut live, &mut spare, verdict.is_ok(), &writes);
+    // A refused list gives neither number.
+    let refused_gives = [PIECES_DIFFERENCES_REFUSED, PIECES_DIFFERENCES_REFUSED_0];
+    if verdict.is_ok() || refused_gives.contains(&fault) {
+        differences[0] = made;
+    }
+    reader.fed.counted = match fault {
+        PIECES_DIFFERENCES_GO_ON => made,
+        _ => 0,
+    };
     match verdict {
         Ok(_) if fault == PIECES_NOT_FRESH_ACCEPTED => {}
         Err(_) if fault == PIECES_NOT_FRESH_REFUSED => {}
@@ -173,24 +198,26 @@ fn try_close(
     verdict
 }
 
-/// Reads the joined list into the live state, at once.
+/// Reads the joined list into the live state, at once. Gives the verdict and how
+/// many writes made a difference.
 fn read_joined(
     fault: u32,
     live: &mut State,
+    spare: &State,
     fed: &Fed,
     writes: &mut Vec<Write>,
-) -> Result<u32, Refusal> {
+) -> (Result<u32, Refusal>, u32) {
     let verdict = judge(fault, fed, writes);
+    let wrong = miscounted::count_wrongly(fault, live, spare, fed, writes);
+    let mut made = 0;
     if verdict.is_ok() || fault == PIECES_LIVE_BEFORE_REFUSAL {
-        apply_all(live, writes);
+        made = put_all(live, writes);
     }
-    verdict
+    (verdict, wrong.unwrap_or(made))
 }
 
-fn apply_all([cells, fog, light]: &mut State, writes: &[Write]) {
-    for write in writes {
-        apply::<NONE>(cells, fog, light, *write);
-    }
+fn put_all([cells, fog, light]: &mut State, writes: &[Write]) -> u32 {
+    apply_all::<NONE>(cells, fog, light, writes)
 }
 
 fn judge(fault: u32, fed: &Fed, writes: &mut Vec<Write>) -> Result<u32, Refusal> {
@@ -212,17 +239,18 @@ fn judge(fault: u32, fed: &Fed, writes: &mut Vec<Write>) -> Result<u32, Refusal>
 }
 
 /// A close whose verdict isn't known: the live state takes the spare one's
-/// values where it was answered.
-fn take_over(live: &mut State, spare: &State, told: u64) -> Result<u32, Refusal> {
-    let low = told as u32;
-    match (told >> 32) as u32 {
+/// values where it was answered. Nor are the differences known.
+fn take_over(live: &mut State, spare: &State, fed: &Fed) -> (Result<u32, Refusal>, u32) {
+    let low = fed.told as u32;
+    let verdict = match (fed.told >> 32) as u32 {
         0 => {
             take(NONE, live, spare);
             Ok(low)
         }
         number @ 2..=5 => refuse(number, low),
         _ => refuse(1, 0),
-    }
+    };
+    (verdict, fed.told_differences)
 }
 
 /// After a close both states agree in their held bits and entries.
@@ -232,7 +260,9 @@ fn leave(fault: u32, live: &mut State, spare: &mut State, accepted: bool, writes
     }
     match (fault, accepted) {
         (PIECES_LIVE_WHOLE, true) => take_whole(live, spare),
-        (PIECES_SPARE_KEPT, false) => apply_all(spare, writes),
+        (PIECES_SPARE_KEPT, false) => {
+            put_all(spare, writes);
+        }
         _ => {}
     }
 }

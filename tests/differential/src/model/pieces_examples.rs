@@ -48,16 +48,21 @@ impl Lent {
         feed(NONE, spare, Reader { words, fed }, part)
     }
 
-    fn close(&mut self) -> u64 {
+    /// What is answered, and what then stands where the differences go, where 9
+    /// stood before.
+    fn close(&mut self) -> (u64, u32) {
         let (words, fed) = (&mut self.words, &mut self.fed);
         let [live, spare] = [&mut self.live, &mut self.spare].map(|state| state.each_mut());
         let reader = Reader { words, fed };
-        close(
+        let mut differences = [9];
+        let answer = close(
             NONE,
             live.map(|b| &mut b[..]),
             spare.map(|b| &mut b[..]),
             reader,
-        )
+            &mut differences,
+        );
+        (answer, differences[0])
     }
 }
 
@@ -78,7 +83,7 @@ fn every_cutting_in_three() {
             assert_eq!(lent.feed(&list[first..second]), second as u64);
             assert_eq!(lent.feed(&list[second..]), 6);
             assert_eq!(lent.words[0], 6);
-            assert_eq!(lent.close(), 3);
+            assert_eq!(lent.close(), (3, 3));
             let [cells, fog, _] = &lent.live;
             assert_eq!(
                 (fog[127], fog[0], cells[0xE6], cells[0x107]),
@@ -126,14 +131,30 @@ fn verdicts_with_places_from_the_start() {
         for (word, come) in list.iter().zip(3..) {
             assert_eq!(lent.feed(&[*word]), come);
         }
-        assert_eq!(lent.close(), verdict);
+        assert_eq!(lent.close(), (verdict, 9));
         assert_eq!((lent.words, lent.live[0][0x40]), ([0; READER], 0));
     }
     // Without opening again.
     assert_eq!(lent.feed(&[3, 0x000F_0040]), 2);
-    assert_eq!(lent.close(), 1);
+    assert_eq!(lent.close(), (1, 1));
     assert_eq!((lent.live[0][0x40], lent.spare[0][0x40]), (3, 3));
-    assert_eq!(lent.close(), 0);
+    assert_eq!(lent.close(), (0, 0));
+}
+
+#[test]
+fn differences_wherever_it_is_cut() {
+    // 41 is 1, 1, 2, 2, 1; 107 is written with what it holds, and a word more.
+    let list = [1, 0x004F_0041, 1, 2, 2, 1, 0x1F71, 0x801F_0107, 5, 0];
+    for cut in 0..=list.len() {
+        // Both states are full of other bits.
+        let mut lent = Lent::new(0xFFFF_FFFF, 0xAAAA_AAAA);
+        assert_eq!(lent.open(), 0);
+        for made in [3, 2, 2] {
+            assert_eq!(lent.feed(&list[..cut]), cut as u64);
+            assert_eq!(lent.feed(&list[cut..]), 10);
+            assert_eq!(lent.close(), (7, made));
+        }
+    }
 }
 
 #[test]
@@ -141,14 +162,14 @@ fn the_limit_is_the_joined_lists() {
     let good = [0, 0x000F_0000].repeat(32_768);
     let mut lent = Lent::opened();
     assert_eq!(lent.feed(&good), 65_536);
-    assert_eq!(lent.close(), 32_768);
+    assert_eq!(lent.close(), (32_768, 0));
     // 1 beats the fault at the start and the command that lacks words.
     for start in [0x000F_0000, 0x000F_023C, 0x0FFF_0000] {
         assert_eq!(lent.feed(&[0, start]), 2);
         assert_eq!(lent.feed(&good[2..]), 65_536);
         assert_eq!(lent.feed(&[0]), 65_537);
         assert_eq!(lent.feed(&good), 65_537);
-        assert_eq!(lent.close(), refusal(1, 0));
+        assert_eq!(lent.close(), (refusal(1, 0), 9));
     }
 }
 
@@ -160,20 +181,22 @@ fn a_wrong_length_changes_nothing() {
         lent.spare[which].pop();
         let words = lent.words;
         let before = [lent.live.clone(), lent.spare.clone()];
-        for answer in [lent.open(), lent.feed(&[0x000F_0040]), lent.close()] {
+        for answer in [lent.open(), lent.feed(&[0x000F_0040])] {
             assert_eq!(answer, refusal(6, 0));
         }
+        assert_eq!(lent.close(), (refusal(6, 0), 9));
         assert_eq!(
             ([&lent.live, &lent.spare], lent.words),
             (before.each_ref(), words)
         );
         lent.spare[which].push(0);
         let entry = lent.live[which].pop().unwrap();
-        assert_eq!((lent.open(), lent.close()), (refusal(6, 0), refusal(6, 0)));
+        assert_eq!(lent.open(), refusal(6, 0));
+        assert_eq!(lent.close(), (refusal(6, 0), 9));
         // A feed isn't lent the live state.
         assert_eq!(lent.feed(&[0x000F_0040]), 2);
         lent.live[which].push(entry);
-        assert_eq!(lent.close(), 1);
+        assert_eq!(lent.close(), (1, 1));
         assert_eq!(lent.live[0][0x40], 3);
     }
 }

@@ -2,27 +2,48 @@
 
 use super::commands::{allowed, expand, Write};
 use super::faults::*;
-use super::{given_back, held, ports, refuse, state_lengths, Refusal};
+use super::{given_back, held, misjudged, ports, refuse, state_lengths, Refusal};
 
 const LONGEST_LIST: usize = 65_536;
 
-/// Applies one allowed write.
-pub fn apply<const F: u32>(cells: &mut [u32], fog: &mut [u32], light: &mut [u32], write: Write) {
+/// Applies one allowed write. Gives whether it made a difference: whether the
+/// cell, entry or index that it touches differs afterwards.
+pub fn apply<const F: u32>(
+    cells: &mut [u32],
+    fog: &mut [u32],
+    light: &mut [u32],
+    write: Write,
+) -> bool {
     if ports::is_data::<F>(write.id) {
         if F == DATA_CELL {
             cells[write.id as usize] = write.value;
         }
         if F == PORT_MASK_0_ACCEPTED && write.mask == 0 {
-            return;
+            return false;
         }
     }
     if ports::is_fog_data::<F>(write.id) {
-        ports::write_fog::<F>(cells, fog, write.value);
+        ports::write_fog::<F>(cells, fog, write.value)
     } else if ports::is_light_data::<F>(write.id) {
-        ports::write_light::<F>(cells, light, write.value);
+        ports::write_light::<F>(cells, light, write.value)
     } else {
-        held::write_held::<F>(cells, write);
+        held::write_held::<F>(cells, write)
     }
+}
+
+/// Applies writes in their order. Gives how many of them made a difference,
+/// each judged on the state left by those before it.
+pub fn apply_all<const F: u32>(
+    cells: &mut [u32],
+    fog: &mut [u32],
+    light: &mut [u32],
+    writes: &[Write],
+) -> u32 {
+    let mut made = 0;
+    for write in writes {
+        made += u32::from(apply::<F>(cells, fog, light, *write));
+    }
+    made
 }
 
 pub fn list_length<const F: u32>(list: &[u32]) -> Result<(), Refusal> {
@@ -37,19 +58,40 @@ pub fn list_length<const F: u32>(list: &[u32]) -> Result<(), Refusal> {
     Ok(())
 }
 
+/// Answers the writes, and gives how many of them made a difference.
 pub fn read<const F: u32>(
     cells: &mut [u32],
     fog: &mut [u32],
     light: &mut [u32],
     list: &[u32],
+    differences: &mut [u32; 1],
 ) -> u64 {
     let mut writes = Vec::new();
-    let result = read_writes::<F>(cells, fog, light, list, &mut writes);
+    let mut result = read_writes::<F>(cells, fog, light, list, &mut writes);
+    let wrong = misjudged::count_wrongly::<F>([cells, fog, light], list, &writes);
+    let mut made = 0;
     // Only a list that is read to its end changes the state.
     if result.is_ok() || F == APPLIES_BEFORE_REFUSAL {
-        for write in &writes {
-            apply::<F>(cells, fog, light, *write);
-        }
+        made = apply_all::<F>(cells, fog, light, &writes);
+    }
+    made = wrong.unwrap_or(made);
+    if F == DIFFERENCES_SWAPPED && result.is_ok() {
+        result = Ok(std::mem::replace(&mut made, writes.len() as u32));
+    }
+    // A refused list gives neither number.
+    let given = match F {
+        DIFFERENCES_NONE_KEPT => result.is_ok() && made > 0,
+        DIFFERENCES_REFUSED => result.is_ok() || !writes.is_empty(),
+        DIFFERENCES_REFUSED_0 => true,
+        _ => result.is_ok(),
+    };
+    if given {
+        let before = if F == DIFFERENCES_ADDED {
+            differences[0]
+        } else {
+            0
+        };
+        differences[0] = before.wrapping_add(made);
     }
     given_back(result)
 }
@@ -74,6 +116,7 @@ fn read_writes<const F: u32>(
     })
 }
 
+/// Answers 1 where the write made a difference, else 0.
 pub fn write<const F: u32>(
     cells: &mut [u32],
     fog: &mut [u32],
@@ -93,18 +136,16 @@ pub fn write<const F: u32>(
         mask
     };
     let tested = state_lengths(cells, fog, light).and_then(|()| test_alone::<F>(id, mask));
-    if tested.is_ok() {
-        apply::<F>(cells, fog, light, Write { id, mask, value });
-    }
-    given_back(tested)
+    let made = tested.map(|()| apply::<F>(cells, fog, light, Write { id, mask, value }));
+    given_back(made.map(|made| u32::from(made && F != ALONE_NO_DIFFERENCE)))
 }
 
-fn test_alone<const F: u32>(id: u32, mask: u32) -> Result<u32, Refusal> {
+fn test_alone<const F: u32>(id: u32, mask: u32) -> Result<(), Refusal> {
     if mask > 15 && !(F == ALONE_ORDER_3_9 && id > 0x2FF) {
         return refuse(9, 0);
     }
     match allowed::<F>(id, mask) {
         Err(number) => refuse(number, 0),
-        Ok(()) => Ok(0),
+        Ok(()) => Ok(()),
     }
 }
