@@ -1,9 +1,10 @@
 // The documents' examples about lists and about packing, run. The file `stdout` beside src/ was written from the documents,
 // and the check compares.
 mod commands;
+mod cuttings;
+mod differences;
 mod masks;
 mod packing;
-mod parts;
 mod ports;
 mod refusals;
 mod show;
@@ -14,5 +15,6 @@ fn main() {
     ports::all();
     refusals::all();
     packing::all();
-    parts::all();
+    cuttings::all();
+    differences::all();
 }

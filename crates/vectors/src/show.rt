@@ -4,6 +4,8 @@ use libc::STDOUT_FILENO;
 use parts::Progress;
 use pieces::Going;
 use reader::ListVerdict;
+use reader::Reading;
+use registers::Written;
 use words::Refusal;
 
 fn put(text: &[u8]) {
@@ -16,6 +18,27 @@ fn put_answer(label: &[u8], verdict: ListVerdict) {
     put(label);
     put(b": ");
     put(&line[..n]);
+}
+
+// What reading answers, but for its second number.
+fn put_reading(label: &[u8], answer: Reading) {
+    match answer {
+        Reading::Accepted(counts) => put_answer(label, ListVerdict::Accepted(counts.writes)),
+        Reading::Refused(why) => put_answer(label, ListVerdict::Refused(why)),
+    }
+}
+
+// Both numbers: the answer's line, and how many of the writes made a difference.
+fn put_counts(label: &[u8], answer: Reading) {
+    match answer {
+        Reading::Accepted(counts) => {
+            put_answer(label, ListVerdict::Accepted(counts.writes));
+            put(b"  differences ");
+            io::print_decimal(STDOUT_FILENO, counts.differences as u64);
+            put(b"\n");
+        }
+        Reading::Refused(why) => put_answer(label, ListVerdict::Refused(why)),
+    }
 }
 
 // In hexadecimal, as `  cell 107 = 00001f71`.
@@ -61,7 +84,7 @@ pub(crate) fn cells_after(label: &[u8], list: &[u32], ids: &[u32]) {
     let mut cells = [0u32; 768];
     let mut fog = [0u32; 128];
     let mut light = [0u32; 6144];
-    put_answer(label, reader::read(&mut cells, &mut fog, &mut light, list));
+    put_reading(label, reader::read(&mut cells, &mut fog, &mut light, list));
     put_words(b"cell ", &cells, ids);
 }
 
@@ -70,7 +93,7 @@ pub(crate) fn fog_after(label: &[u8], list: &[u32], entries: &[u32]) {
     let mut cells = [0u32; 768];
     let mut fog = [0u32; 128];
     let mut light = [0u32; 6144];
-    put_answer(label, reader::read(&mut cells, &mut fog, &mut light, list));
+    put_reading(label, reader::read(&mut cells, &mut fog, &mut light, list));
     put_words(b"cell ", &cells, &[0xE6]);
     put_words(b"fog ", &fog, entries);
 }
@@ -80,7 +103,7 @@ pub(crate) fn light_after(label: &[u8], list: &[u32], entries: &[u32]) {
     let mut cells = [0u32; 768];
     let mut fog = [0u32; 128];
     let mut light = [0u32; 6144];
-    put_answer(label, reader::read(&mut cells, &mut fog, &mut light, list));
+    put_reading(label, reader::read(&mut cells, &mut fog, &mut light, list));
     put_words(b"cell ", &cells, &[0x1C5]);
     put_words(b"light ", &light, entries);
 }
@@ -134,7 +157,7 @@ fn gone_on(going: Going) -> Progress {
     }
 }
 
-// Three parts fed to a reader over states of zeros: the answer at the close, how many words had come after each part, and the
+// Three parts fed to a reader over states of zeros: both numbers at the close, how many words had come after each part, and the
 // live state's cells of these ids.
 pub(crate) fn in_parts(label: &[u8], first: &[u32], second: &[u32], third: &[u32], ids: &[u32]) {
     let mut cells = [0u32; 768];
@@ -176,7 +199,42 @@ pub(crate) fn in_parts(label: &[u8], first: &[u32], second: &[u32], third: &[u32
         &mut spare_light,
     );
     let verdict = closed.verdict;
-    put_answer(label, verdict);
+    put_counts(label, verdict);
     put_words(b"come ", &[p.come, q.come, r.come], &[0, 1, 2]);
     put_words(b"cell ", &cells, ids);
+}
+
+// Both numbers of the second of two lists, which are read one after the other into a state of zeros.
+pub(crate) fn counts_after(label: &[u8], before: &[u32], list: &[u32]) {
+    let mut cells = [0u32; 768];
+    let mut fog = [0u32; 128];
+    let mut light = [0u32; 6144];
+    reader::read(&mut cells, &mut fog, &mut light, before);
+    put_counts(label, reader::read(&mut cells, &mut fog, &mut light, list));
+}
+
+fn put_written(label: &[u8], answer: Written) {
+    match answer {
+        Written::Done(difference) => {
+            put(label);
+            if difference {
+                put(b": a difference\n");
+            } else {
+                put(b": none\n");
+            }
+        }
+        Written::Refused(why) => put_answer(label, ListVerdict::Refused(why)),
+    }
+}
+
+// What a single write tells that is made on a state of zeros after the list was read into it.
+pub(crate) fn written_after(label: &[u8], before: &[u32], id: u32, mask: u32, value: u32) {
+    let mut cells = [0u32; 768];
+    let mut fog = [0u32; 128];
+    let mut light = [0u32; 6144];
+    reader::read(&mut cells, &mut fog, &mut light, before);
+    put_written(
+        label,
+        registers::write(&mut cells, &mut fog, &mut light, id, mask, value),
+    );
 }
