@@ -253,12 +253,14 @@ pub leads-by : (l : List ℕ) (p q : Progress) (i j : ℕ) (s t : State) (ws : L
     → d ≡ differences s ws
     → Leads l p i s q j t d
 leads-by l p q i j s t ws d w h e c =
+    let f : differences s (made p (drop i l)) ≡ differences s ws + differences t (made q (drop j l)) =
+    rw (e, ← (w .writes)) (differences-append s ws (made q (drop j l))) in
     record {
       few = omega (arith, w .few, differences-most s ws, c);
       inside = h;
       progress = w .progress;
       state = rw (e, ← (w .writes)) (sym (apply-append s ws (made q (drop j l))));
-      counts = rw (c, e, ← (w .writes)) (sym (differences-append s ws (made q (drop j l))));
+      counts = omega (arith, c, f);
     }
 
 pub leads-none : (l : List ℕ) (p : Progress) (i : ℕ) (s : State) → i ≤ length l → Leads l p i s p i s 0
