@@ -58,7 +58,7 @@ module _ (h : Header) (o : ToOne h) (l : List ℕ) where
   e = bitAnd (bitsOf id) (spread (h .mask))
 
   -- NOT HELD: nothing changes
-  free-run : bitsOf id ≡ 0 → (s : State) (j n : ℕ) → applyAll s (rest j n) ≡ s
+  pub free-run : bitsOf id ≡ 0 → (s : State) (j n : ℕ) → applyAll s (rest j n) ≡ s
   free-run z s j zero = run-applied l (h .mask) s j 0 id 0 (omega arith)
   free-run z s j (suc n) =
       let m : suc n - 1 ≡ n = omega arith in

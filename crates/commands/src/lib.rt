@@ -100,12 +100,12 @@ fn many_changes(e: u32, old: u32, c: u32, list: &[u32], from: usize, count: u32)
     let mut cell = c;
     let mut n: u32 = 0;
     let mut left = count;
-    let mut j = from;
+    let mut k = from;
     while 0 < left {
-        let next = ports::merged(e, old, list[j]);
+        let next = ports::merged(e, old, list[k]);
         n += registers::changed(cell, next);
         cell = next;
-        j += 1;
+        k += 1;
         left -= 1;
     }
     n

@@ -193,7 +193,7 @@ fn take_word(
 }
 
 // Writes to ids from `h.id` on, one for each of the `h.count` values that stand in `list` from `from` on: how many of them made a
-// difference. To a port's data every write does.
+// difference. To a port's data every write does, and to one other id that isn't held none.
 fn put_run(
     cells: &mut [u32],
     fog: &mut [u32],
@@ -228,6 +228,9 @@ fn put_run(
         if (0x1C8 <= id) & (id <= 0x1CF) {
             ports::upload_light(cells, light, list, from, h.count);
             return h.count;
+        }
+        if registers::bits_held(slots, held, id) == 0 {
+            return 0;
         }
     }
     let mask = h.mask;

@@ -9,11 +9,11 @@ use Rattle.commands.proofs.many_changes.Statement.{statement}
 use Rattle.commands.proofs.many_changes.Tie as tie
 
 abbrev Inv-loop : tie.InvT-loop
-Inv-loop e old c list from count cell₀ n₀ left₀ j₀ cell n left j =
-    (j + left ≡ from + count) × (n + left ≤ count) × (n + changes e old cell list j left ≡ changes e old c list from count)
+Inv-loop e old c list from count cell₀ n₀ left₀ k₀ cell n left k =
+    (k + left ≡ from + count) × (n + left ≤ count) × (n + changes e old cell list k left ≡ changes e old c list from count)
 
 abbrev μ-loop : tie.MeasureT-loop
-μ-loop e old c list from count cell₀ n₀ left₀ j₀ cell n left j = left
+μ-loop e old c list from count cell₀ n₀ left₀ k₀ cell n left k = left
 
 loop-holds : tie.Need-loop-holds Inv-loop μ-loop
 loop-holds c = (refl, omega arith, omega arith)
@@ -35,8 +35,8 @@ add-n c =
     let at-loop = c .before .before .before .before in
     omega (arith, c .changed .ensures .1, at-loop .loop .inv .1, at-loop .before .before .pre .0, c .before .before .before .loop-test .taken)
 
-add-j : tie.Need-add-j Inv-loop μ-loop
-add-j c =
+add-k : tie.Need-add-k Inv-loop μ-loop
+add-k c =
     let at-loop = c .before .before .before .before in
     let at-start = at-loop .before .before in
     omega (arith, at-loop .loop .inv .0, at-start .pre .1, at-start .good, c .before .before .before .loop-test .taken)
@@ -56,7 +56,7 @@ loop-again c =
     let t = at-loop-test .loop-test .taken in
     let m = c .before .merged .ensures in
     let d = rw m at (c .changed .ensures) in
-    let x = changes-next (a .e) (a .old) (a .list .now) (o .cell) (o .j) (o .left) t in
+    let x = changes-next (a .e) (a .old) (a .list .now) (o .cell) (o .k) (o .left) t in
     (omega (arith, o .inv .0, t), omega (arith, o .inv .1, d .1, t), rw m (omega (arith, o .inv .2, d .0, x)))
 
 returns : tie.Need-returns Inv-loop μ-loop
@@ -64,7 +64,7 @@ returns c =
     let at-loop = c .before in
     let a = at-loop .before .before .args in
     let o = at-loop .loop in
-    let z = changes-none (a .e) (a .old) (a .list .now) (o .cell) (o .j) (o .left) (c .loop-test .left) in
+    let z = changes-none (a .e) (a .old) (a .list .now) (o .cell) (o .k) (o .left) (c .loop-test .left) in
     (omega (arith, o .inv .2, z), omega (arith, o .inv .1))
 
 pub many-changes-spec : {M : Type 1} → statement M
@@ -79,7 +79,7 @@ many-changes-spec =
     merged-requires
     changed-requires
     add-n
-    add-j
+    add-k
     sub-left
     loop-less
     loop-again

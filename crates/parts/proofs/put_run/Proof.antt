@@ -1,16 +1,19 @@
--- A run to a port's data is an upload, of which each write counts. The invariant of the others: what is left of the run leads from here to
--- where all of it leads, and counts, with what was counted so far, what all of it counts. Assumes nothing.
+-- A run to a port's data is an upload, of which each write counts; one to another id that isn't held does nothing. The invariant of the
+-- others: what is left of the run leads from here to where all of it leads, and counts, with what was counted so far, what all of it counts.
+-- Assumes nothing.
 use mathlib.Core.Path.{_≡_, refl, sym, _∙_}
-use mathlib.Core.Bool.{true}
+use mathlib.Core.Bool.{true, false}
 use Prim.Native.Nat.{_+_, _-_, _≤_}
 use native.Mathlib.Omega.{arith}
 use borrow.Author.Needs.{needs}
 use Rattle.registers.specs.State.{st, Lengths}
 use Rattle.numbers.specs.Bits.{spread}
 use Rattle.registers.specs.Applied.{applyAll, differences}
-use Rattle.registers.proofs.Differences.{differs-fog-data, differs-light-data}
+use Rattle.registers.proofs.Differences.{differs-fog-data, differs-light-data, differs-free}
 use Rattle.commands.specs.Run.{runFrom}
 use Rattle.commands.proofs.Applying.{run-applied, run-applies, run-counted, run-counts, alike-counts}
+use Rattle.commands.specs.ToOne.{ToOne}
+use Rattle.commands.proofs.Same.{free-run}
 use Rattle.commands.proofs.Uploads.{fog-run, light-run}
 use Rattle.parts.proofs.put_run.Statement.{statement}
 use Rattle.parts.proofs.put_run.Tie as tie
@@ -93,6 +96,23 @@ returns-2 c =
           (omega (arith, at-start .pre .0 .0 .0)))),
     )
 
+bits-held-requires : tie.Need-bits-held-requires Inv-loop μ-loop
+bits-held-requires c κs = search needs
+
+returns-3 : tie.Need-returns-3 Inv-loop μ-loop
+returns-3 c =
+    let at-bits-held = c .before in
+    let at-if3 = at-bits-held .before in
+    let at-if2 = at-if3 .before in
+    let at-if1 = at-if2 .before in
+    let a = at-if1 .before .before .before .before .before .args in
+    let s = st (a .cells .now) (a .fog .now) (a .light .now) in
+    let z = sym (at-bits-held .bits-held .ensures) ∙ c .if4 .taken in
+    let o : ToOne (a .h) = record { one = at-if1 .if1 .taken; noFog = at-if2 .if2 .left; noLight = at-if3 .if3 .left } in
+    let none = alike-counts (a .list .now) (a .h .mask) false (a .h .id)
+    (λ t v. differs-free t (a .h .id) (spread (a .h .mask)) v (o .noFog) (o .noLight) z) s (a .from) (a .h .count) in
+    rw (at-if1 .if1 .taken) ((sym none, omega arith), sym (free-run (a .h) o (a .list .now) z s (a .from) (a .h .count)))
+
 spread-mask-requires : tie.Need-spread-mask-requires Inv-loop μ-loop
 spread-mask-requires c κs = search needs
 
@@ -169,8 +189,8 @@ same-length-6 c = search needs
 same-length-7 : tie.Need-same-length-7 Inv-loop μ-loop
 same-length-7 c = search needs
 
-returns-3 : tie.Need-returns-3 Inv-loop μ-loop
-returns-3 c =
+returns-4 : tie.Need-returns-4 Inv-loop μ-loop
+returns-4 c =
     let at-loop = c .before in
     let at-start = at-loop .before .before .before .before .before .before .before in
     let o = at-loop .loop in
@@ -196,6 +216,8 @@ put-run-spec =
     same-length-3
     same-length-4
     returns-2
+    bits-held-requires
+    returns-3
     spread-mask-requires
     loop-holds
     mul-put-one
@@ -209,4 +231,4 @@ put-run-spec =
     same-length-5
     same-length-6
     same-length-7
-    returns-3)
+    returns-4)
