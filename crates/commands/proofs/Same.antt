@@ -24,7 +24,7 @@ use Rattle.commands.specs.ToOne.{ToOne}
 use Rattle.commands.specs.Changes.{change, changes}
 use Rattle.commands.proofs.Changes.{changes-none, changes-next}
 use Rattle.commands.proofs.Applying.{run-applied, run-counted, same-first, same-applies}
-use Rattle.commands.proofs.Applying.{same-counts, same-first-counts, same-alike-counts}
+use Rattle.commands.proofs.Applying.{same-counts, alike-counts, same-first-counts, same-alike-counts}
 
 -- of replacements in the same bits the last decides
 pick-last : (e o a b : ℕ) → pickBit e b (pickBit e a o) ≡ pickBit e b o
@@ -64,6 +64,10 @@ module _ (h : Header) (o : ToOne h) (l : List ℕ) where
       let m : suc n - 1 ≡ n = omega arith in
       same-applies l (h .mask) s j (suc n) id (omega arith)
       ∙ rw (m, put-free s id (spread (h .mask)) (getD l j 0) (o .noFog) (o .noLight) z) (free-run z s (j + 1) n)
+
+  pub free-run-counts : bitsOf id ≡ 0 → (s : State) (j n : ℕ) → differences s (rest j n) ≡ 0
+  free-run-counts z s j n =
+      alike-counts l (h .mask) false id (λ t x. differs-free t id (spread (h .mask)) x (o .noFog) (o .noLight) z) s j n
 
   pub free-command : bitsOf id ≡ 0 → (s : State) (v j : ℕ) → applyAll s (runWith h v l j) ≡ s
   free-command z s v j =
@@ -131,3 +135,23 @@ module _ (h : Header) (o : ToOne h) (l : List ℕ) where
           differs-held (st cells fog light) id (spread (h .mask)) v some b,
           run-changes v j (h .count),
         )
+
+    -- A RUN, of one value at least
+    module _ (j n : ℕ) (p : 0 < n) where
+      pub values-applied : applyAll (st cells fog light) (rest j n) ≡ with (getD l (j + n - 1) 0)
+      values-applied =
+          same-applies l (h .mask) (st cells fog light) j n id p
+          ∙ rw (put-held (st cells fog light) id (spread (h .mask)) (getD l j 0) some) (held-run (getD l j 0) (j + 1) (n - 1) ∙ last)
+        where
+          last : with (pick (eqb (n - 1) 0) (getD l j 0) (getD l (j + 1 + (n - 1) - 1) 0)) ≡ with (getD l (j + n - 1) 0)
+          last = let m : suc (n - 1) ≡ n = omega arith in ap with (rw m at (last-next l j (n - 1)))
+
+      pub values-counted : differences (st cells fog light) (rest j n) ≡ changes e old old l j n
+      values-counted =
+          same-counts l (h .mask) (st cells fog light) j n id p
+          ∙ rw (
+            put-held (st cells fog light) id (spread (h .mask)) (getD l j 0) some,
+            differs-held (st cells fog light) id (spread (h .mask)) (getD l j 0) some b,
+            run-changes (getD l j 0) (j + 1) (n - 1),
+          )
+          (sym (changes-next e old l old j n p))

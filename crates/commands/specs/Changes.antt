@@ -8,7 +8,7 @@ use lib.ListN.{getD}
 use Rattle.numbers.specs.Bits.{merge}
 use Rattle.numbers.specs.Pick.{pick}
 
--- 1 where a cell that holds c is another when it holds d
+-- 1 where d is another word than c, else 0
 abbrev pub change : ℕ → ℕ → ℕ
 change c d = pick (not (eqb d c)) 1 0
 

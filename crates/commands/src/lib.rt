@@ -11,7 +11,7 @@ ghost use Rattle.numbers.specs.Bits.{merge};
 ghost use Rattle.registers.specs.State.{st, Lengths};
 ghost use Rattle.registers.specs.Tables.{LookupTables};
 ghost use Rattle.registers.specs.Applied.{applyAll, differences};
-ghost use Rattle.commands.specs.Run.{runWith};
+ghost use Rattle.commands.specs.Run.{runFrom, runWith};
 ghost use Rattle.commands.specs.ToOne.{ToOne};
 ghost use Rattle.commands.specs.Changes.{change, changes};
 ghost use Rattle.commands.specs.Clear.{lastId, clear};
@@ -79,8 +79,8 @@ fn least(a: usize, b: usize) -> usize
     if a < b { a } else { b }
 }
 
-// How often a cell that holds `c` changes by one to three values, which stand in `list` from `from` on: by three all the same, with the
-// last for those that lack, so that no branch goes by their number.
+// How often a cell that holds `c` changes by one to three values, which stand in `list` from `from` on. Always three comparisons: where
+// values lack, the last stands in, which changes nothing, so that no branch goes by their number.
 fn few_changes(e: u32, old: u32, c: u32, list: &[u32], from: usize, count: u32) -> u32
     requires { ⌜ (0 < count) × (count ≤ 3) × (from + count ≤ length (now list)) ⌝ }
     ensures { λ r. ⌜ (r ≡ changes e old c (now (list .entry)) from count) × (r ≤ 3) ⌝ }
@@ -167,6 +167,42 @@ fn apply_same(
     let value = last_value(first, h.count, list[from + h.count as usize - 1]);
     cells[i] = ports::merged(e, old, value);
     count_changes(e, old, first, list, from, h.count)
+}
+
+// Writes to one id that is no port's data, one for each of the `h.count` values that stand in `list` from `from` on: as above, without a
+// first value apart.
+pub fn apply_values(
+    cells: &mut [u32],
+    slots: &[u8; 256],
+    held: &[u32; 132],
+    h: Header,
+    list: &[u32],
+    from: usize,
+) -> u32
+    requires { ⌜ (length (now cells) ≡ 768) × LookupTables (now slots) (now held) ⌝ }
+    requires { ⌜ ToOne h × (h .count < 256) × (from + h .count ≤ length (now list)) ⌝ }
+    ensures count { λ r. ⌜
+        ((fog light : List ℕ) → r
+        ≡ differences (st (now (cells .entry)) fog light) (runFrom (now (list .entry)) from (h .count) (h .id) (h .mask) 0))
+        ⌝ }
+    ensures state { λ _. ⌜
+        ((fog light : List ℕ) → st (now (cells .exit)) fog light
+        ≡ applyAll (st (now (cells .entry)) fog light) (runFrom (now (list .entry)) from (h .count) (h .id) (h .mask) 0))
+        ⌝ }
+{
+    let bits = registers::bits_held(slots, held, h.id);
+    if bits == 0 {
+        return 0;
+    }
+    if h.count == 0 {
+        return 0;
+    }
+    let i = h.id as usize;
+    let mask = h.mask;
+    let e = bits & ports::spread_mask(mask);
+    let old = cells[i];
+    cells[i] = ports::merged(e, old, list[from + h.count as usize - 1]);
+    many_changes(e, old, old, list, from, h.count)
 }
 
 // The writes of a command with the header `h`, by what it writes to: a port's data, one other id, or ids that rise. Its first value is

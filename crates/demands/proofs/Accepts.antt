@@ -30,7 +30,7 @@ use Rattle.demands.proofs.EndToEnd.{write-refuses, write-leaves, decode
 clash : {b : Bool} → b ≡ true → b ≡ false → ⊥
 clash t f = false≢true (sym f ∙ t)
 
--- A SINGLE WRITE that is allowed, under a mask of at most 15, is done
+-- A SINGLE WRITE that is allowed, under a mask of at most 15, is done, and tells whether it made a difference
 not-refused : (s : State) (w : Write) (n p : ℕ) → sized s ≡ true → w .mask ≤ 15 → allowed (w .id) (w .mask) ≡ true
     → WriteRefused s w n p → ⊥
 not-refused s w n p z m a r =

@@ -201,13 +201,13 @@ EachDone s [] t c = Unit {0}
 EachDone s (w ∷ ws) t c = ((d : Bool) × (c .1 ≡ written.Done d)) × EachDone (c .0) ws t (c .3)
 
 -- how many of them told that they made a difference
-abbrev pub one : Written → ℕ
-one (written.Done d) = pick d 1 0
-one (written.Refused why) = 0
+abbrev pub toldOne : Written → ℕ
+toldOne (written.Done d) = pick d 1 0
+toldOne (written.Refused why) = 0
 
 abbrev pub tally : (s : State) (ws : List Write) (t : State) → InTurn s ws t → ℕ
 tally s [] t c = 0
-tally s (w ∷ ws) t c = one (c .1) + tally (c .0) ws t (c .3)
+tally s (w ∷ ws) t c = toldOne (c .1) + tally (c .0) ws t (c .3)
 
 in-turn : (ws : List Write) (s t : State) → sized s ≡ true → Packable ws → (c : InTurn s ws t)
     → EachDone s ws t c × (t ≡ applyAll s ws) × (tally s ws t c ≡ differences s ws)

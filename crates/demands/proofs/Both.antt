@@ -2,9 +2,8 @@
 use mathlib.Core.Path.{_≡_, refl, sym, ap, _∙_}
 use Prim.Native.Nat.{ℕ}
 use native.Mathlib.Omega.{arith}
-use Rattle.numbers.specs.Answer.{Answer, answered, refused, Answers, both, neither, besides}
+use Rattle.numbers.specs.Answer.{Answer, answered, refused, Answers, both, neither, besides, alone}
 use Rattle.pica.specs.Calls.{answer, answers}
-use Rattle.demands.specs.Both.{alone}
 
 pub alone-besides : (a : Answer) (d : ℕ) → alone (besides a d) ≡ a
 alone-besides (answered n) d = refl

@@ -40,8 +40,18 @@ bit-held h o p a b c d e =
     let f : bitAnd o 1 ≡ bitAnd p 1 = rw one at e in
     omega (arith, f, and-mask o 1, and-mask p 1, c, d)
 
--- A CELL that a masked replacement leaves as it was, and another with the same held bits
-module _ (H m v o p : ℕ) (q : bitAnd o H ≡ bitAnd p H) (x : o < 0x100000000) (y : p < 0x100000000) where
+-- A CELL is as it was after a masked replacement exactly when each bit that is replaced was the value's already
+module _ (e o v : ℕ) (w : e < 2 ^ 32) where
+  pub merge-keeps : o < 0x100000000 → ((k : ℕ) → k < 32 → 0 < bit k e → bit k v ≡ bit k o) → merge e o v ≡ o
+  merge-keeps x h =
+      bits-equal 32 (merge e o v) o (merge-word e o v w) (omega (arith, x))
+      (λ k l. merge-bit k e o v w l ∙ pick-kept (bit k e) (bit k v) (bit k o) (h k l))
+
+  pub merge-kept : merge e o v ≡ o → (k : ℕ) → k < 32 → 0 < bit k e → bit k v ≡ bit k o
+  merge-kept s k l = pick-told (bit k e) (bit k v) (bit k o) (sym (merge-bit k e o v w l) ∙ ap (λ (z : ℕ). bit k z) s)
+
+-- and so is another with the same held bits
+module _ (H m v o p : ℕ) (q : bitAnd o H ≡ bitAnd p H) (y : p < 0x100000000) where
   abbrev e : ℕ
   e = bitAnd H (spread m)
 
@@ -55,13 +65,7 @@ module _ (H m v o p : ℕ) (q : bitAnd o H ≡ bitAnd p H) (x : o < 0x100000000)
       (sym (and-bit k o H) ∙ ap (λ (z : ℕ). bit k z) q ∙ and-bit k p H)
 
   merge-same : merge e o v ≡ o → merge e p v ≡ p
-  merge-same s =
-      bits-equal 32 (merge e p v) p (merge-word e p v e-word) (omega (arith, y))
-      (λ k l.
-      merge-bit k e p v e-word l
-      ∙ pick-kept (bit k e) (bit k v) (bit k p)
-      (λ b.
-      pick-told (bit k e) (bit k v) (bit k o) (sym (merge-bit k e o v e-word l) ∙ ap (λ (z : ℕ). bit k z) s) b ∙ same-held k b))
+  merge-same s = merge-keeps e p v e-word y (λ k l b. merge-kept e o v e-word s k l b ∙ same-held k b)
 
 -- so it changes both or neither
 merge-changes : (H m v o p : ℕ) → bitAnd o H ≡ bitAnd p H → o < 0x100000000 → p < 0x100000000
@@ -69,8 +73,8 @@ merge-changes : (H m v o p : ℕ) → bitAnd o H ≡ bitAnd p H → o < 0x100000
 merge-changes H m v o p q x y = go (eqb (merge (bitAnd H (spread m)) o v) o) refl
   where
     go : (b : Bool) → eqb (merge (bitAnd H (spread m)) o v) o ≡ b → b ≡ eqb (merge (bitAnd H (spread m)) p v) p
-    go true t = sym (eq-eqb _ p (merge-same H m v o p q x y (eqb-true _ o t)))
-    go false t = sym (ne-eqb _ p (λ s. eqb-false _ o t (merge-same H m v p o (sym q) y x s)))
+    go true t = sym (eq-eqb _ p (merge-same H m v o p q y (eqb-true _ o t)))
+    go false t = sym (ne-eqb _ p (λ s. eqb-false _ o t (merge-same H m v p o (sym q) x s)))
 
 -- ONE WRITE
 module _ (s t : State) (a : Alike s t) (u : Words s) (v : Words t) (y : sized s ≡ true) (z : sized t ≡ true) (w : Write) where
@@ -94,7 +98,7 @@ module _ (s t : State) (a : Alike s t) (u : Words s) (v : Words t) (y : sized s 
         merge-changes (bitsOf i) (w .mask) (w .value) (getD (s .cells) i 0) (getD (t .cells) i 0) (a .cells i) (u i) (v i),
       )
 
-  difference-alike : difference s w ≡ difference t w
+  pub difference-alike : difference s w ≡ difference t w
   difference-alike = by-kind (fogData i) (lightData i) (eqb (bitsOf i) 0) refl refl refl
 
 -- A RUN

@@ -10,6 +10,7 @@ use lib.Dec.{eqb, ltb}
 use borrow.Author.Tests.{lt-ltb, le-ltb}
 use Rattle.numbers.specs.Pick.{pick}
 use Rattle.numbers.specs.Answer.{Answer, answered, refused, both, neither, besides}
+use Rattle.numbers.proofs.Answers.{told-apart}
 use Rattle.registers.specs.State.{State, sized}
 use Rattle.reader.specs.Read.{toldBoth}
 use Rattle.registers.specs.Applied.{applyAll}
@@ -29,7 +30,7 @@ use Rattle.demands.proofs.Beside.{Beside, beside-same, beside-run, besi
 use Rattle.demands.proofs.Calls.{OpenCall, open-call, FeedCall, feed-call, CloseCall, close-call}
 use Rattle.demands.proofs.Pieces.{both-sized, right-answer, fed-call}
 
--- RIGHT LENGTHS are never refused by open and feed, and a close then answers by the words alone
+-- RIGHT LENGTHS are never refused by open and feed, and a close then answers by the progress alone
 pub open-answers : {live spare t : State} {a : Going} → OpenCall live spare a t → bothSized live spare ≡ true
     → (a ≡ Come fresh) × (t ≡ taken spare live)
 open-answers {live} {spare} c e =
@@ -43,21 +44,41 @@ feed-answers {p} {s} {t} {l} c e =
     let r = feed-right p s l e in
     let i = k .1 ∙ sym (r .1) in (k .0 ∙ sym (r .0), i, rw i (sized-kept s (made p l) ∙ e))
 
+-- a list that is accepted has the writes that were counted
+closing-writes : (p : Progress) (n : ℕ) → closing p ≡ answered n → n ≡ p .writes
+unfolding closing
+closing-writes p n = go (ltb 65536 (p .come)) (between p) (eqb (p .fault) 0)
+  where
+    go : (l b f : Bool)
+        → pick l (refused 1 0) (pick b (pick f (answered (p .writes)) (refused (faultNumber (p .fault)) (p .place))) (refused 2 (p .place)))
+        ≡ answered n
+        → n ≡ p .writes
+    go true b f e = absurd (told-apart (sym e))
+    go false false f e = absurd (told-apart (sym e))
+    go false true true e = cc
+    go false true false e = absurd (told-apart (sym e))
+
 -- "On acceptance the live state takes those of the spare", which keeps what it has; "on any other refusal the spare those of the live";
--- "and the reader is as freshly opened". The differences are those counted so far
+-- "and the reader is as freshly opened". Writes and differences are those counted so far
 module _ {p : Progress} {live spare live′ spare′ : State} {c : Closed} (k : CloseCall p live spare c live′ spare′)
     (e : bothSized live spare ≡ true) where
   told-closing : toldBoth (c .verdict) ≡ besides (closing p) (p .differences)
   told-closing = close-call k .0 ∙ right-answer live spare p e
 
   pub close-accepts : (n d : ℕ) → toldBoth (c .verdict) ≡ both n d
-      → (d ≡ p .differences) × (live′ ≡ taken live spare) × Alike live′ spare × (spare′ ≡ spare) × (c .progress ≡ fresh)
+      → (n ≡ p .writes) × (d ≡ p .differences) × (live′ ≡ taken live spare) × Alike live′ spare × (spare′ ≡ spare) × (c .progress ≡ fresh)
   close-accepts n d v =
       let b = both-given (closing p) n (p .differences) d (sym v ∙ told-closing) in
       let r = close-accepted live spare p n e (sym (b .0)) in
       let z = both-sized live spare e in
-      let i = close-call k .2 ∙ sym (r .2) in
-      (b .1, i, rw i (taken-alike live spare (z .0) (z .1)), close-call k .3 ∙ sym (r .3), close-call k .1 ∙ sym (r .1))
+      let i = close-call k .2 ∙ sym (r .2) in (
+        closing-writes p n (b .0),
+        b .1,
+        i,
+        rw i (taken-alike live spare (z .0) (z .1)),
+        close-call k .3 ∙ sym (r .3),
+        close-call k .1 ∙ sym (r .1),
+      )
 
   pub close-refuses : (n x : ℕ) → toldBoth (c .verdict) ≡ neither n x
       → (live′ ≡ live) × (spare′ ≡ taken spare live) × Alike spare′ live × (c .progress ≡ fresh)

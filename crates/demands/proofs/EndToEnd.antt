@@ -93,11 +93,11 @@ pub draw-refuses : {s : State} {g : Given} {incoming : ℕ} {stored : Stored} {w
     → DrawCall s g incoming stored (drawn.Refused why) → DrawRefused s incoming (stored .depth) (why .number) (why .place)
 draw-refuses {s} {g} {incoming} {stored} {why} c = draw-row s incoming stored (why .number) (why .place) g (sym (draw-call c))
 
--- DEMAND 2: "A list is accepted exactly when it is well formed and each write is allowed; what it leaves is what its expansion leaves,
--- one masked write after another."
-
 pub counts-one : (c d : Counts) → c .writes ≡ d .writes → c .differences ≡ d .differences → c ≡ d
 counts-one c d w n = rw (w, n)
+
+-- DEMAND 2: "A list is accepted exactly when it is well formed and each write is allowed; what it leaves is what its expansion leaves,
+-- one masked write after another."
 
 -- a list that can be read, and is to be accepted
 pub record Acceptable (s : State) (l : List ℕ) : Type 0 where
@@ -107,11 +107,11 @@ pub record Acceptable (s : State) (l : List ℕ) : Type 0 where
   pub allowed : allAllowed (expansion l) ≡ true
 
 -- what reading then gives: the number of writes, and how many of them made a difference
-abbrev pub counted : State → List ℕ → Counts
-counted s l = record { writes = length (expansion l); differences = differences s (expansion l) }
+abbrev pub countsOf : State → List ℕ → Counts
+countsOf s l = record { writes = length (expansion l); differences = differences s (expansion l) }
 
 pub read-accepts-only : {s t : State} {l : List ℕ} {c : Counts} → ReadCall s l (reading.Accepted c) t
-    → Acceptable s l × (c ≡ counted s l) × (t ≡ applyAll s (expansion l))
+    → Acceptable s l × (c ≡ countsOf s l) × (t ≡ applyAll s (expansion l))
 unfolding readAnswers
 read-accepts-only {s} {t} {l} {c} r =
     let k = read-call r in
@@ -120,21 +120,20 @@ read-accepts-only {s} {t} {l} {c} r =
     let z = read-tested s l (c .writes) e in
     let a = accepted-only s l (z .0) (z .1) (c .writes) e in (
       record { lengths = z .0; short = z .1; form = a .0; allowed = a .1 },
-      counts-one c (counted s l) (a .2) (g .1),
+      counts-one c (countsOf s l) (a .2) (g .1),
       k .1 ∙ leaves s l (z .0) (z .1) (c .writes) e,
     )
 
 pub read-accepts : {s t : State} {l : List ℕ} {r : Reading} → ReadCall s l r t → Acceptable s l
-    → (r ≡ reading.Accepted (counted s l)) × (t ≡ applyAll s (expansion l))
+    → (r ≡ reading.Accepted (countsOf s l)) × (t ≡ applyAll s (expansion l))
 unfolding readAnswers
 read-accepts {s} {t} {l} {r} c a =
     let k = read-call c in
     let e = accepted s l (a .lengths) (a .short) (a .form) (a .allowed) in (
-      both-one r (reading.Accepted (counted s l)) (k .0 ∙ rw e),
+      both-one r (reading.Accepted (countsOf s l)) (k .0 ∙ rw e),
       k .1 ∙ leaves s l (a .lengths) (a .short) _ e,
     )
 
--- a single write that is done is allowed, leaves what the write leaves, and tells whether it made a difference
 done-one : (a b : Bool) → answered (pick a 1 0) ≡ answered (pick b 1 0) → a ≡ b
 done-one a b e = let z = write-told-one (written.Done a) (written.Done b) e in cc
 
@@ -154,6 +153,7 @@ not-refused : (s : State) (w : Write) → refusalOf s w ≡ 0 → (sized s ≡ t
 unfolding refusalOf
 not-refused s w e = by-mask s w (sized s) (ltb 15 (w .mask)) refl refl e
 
+-- a single write that is done is allowed, leaves what the write leaves, and tells whether it made a difference
 pub write-leaves : {s t : State} {w : Write} {d : Bool} → WriteCall s w (written.Done d) t
     → (sized s ≡ true) × (w .mask ≤ 15) × (allowed (w .id) (w .mask) ≡ true) × (t ≡ apply s w)
     × (d ≡ differs s (w .id) (spread (w .mask)) (w .value))

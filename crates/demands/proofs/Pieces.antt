@@ -9,7 +9,7 @@ use native.Mathlib.Decide.{decLt}
 use native.Mathlib.Omega.{arith}
 use lib.ListN.{length}
 use borrow.Author.Tests.{le-leb, lt-leb, lt-ltb}
-use Rattle.numbers.specs.Answer.{Answer, answered, refused, Answers, neither, besides}
+use Rattle.numbers.specs.Answer.{Answer, answered, refused, Answers, neither, besides, alone}
 use Rattle.numbers.proofs.Tests.{and-true}
 use Rattle.words.specs.Commands.{expansion}
 use Rattle.registers.specs.State.{State, sized}
@@ -22,7 +22,7 @@ use Rattle.reader.specs.Read.{toldBoth, readAnswer, readAnswers, readState}
 use Rattle.reader.specs.declared.Reading.{Reading}
 use Rattle.reader.proofs.Accepted.{verdict-accepted}
 use Rattle.reader.proofs.Once.{both-one}
-use Rattle.parts.specs.Progress.{fresh, plus, after, made, heldAt, counted, tallied, closing}
+use Rattle.parts.specs.Progress.{fresh, plus, after, made, heldAt, counted, tallied, onward, closing}
 use Rattle.pieces.specs.Pieces.{wrongLength, bothSized, opening, openedSpare, fed, feeding}
 use Rattle.pieces.specs.Pieces.{fedSpare, closeAnswer, closeAnswers, closeProgress, closedLive, closedSpare}
 use Rattle.parts.specs.declared.Progress.{Progress}
@@ -34,7 +34,6 @@ use Rattle.parts.proofs.Counts.{held-twice, come-held, counted-same}
 use Rattle.pieces.proofs.Whole.{whole-list}
 use Rattle.pieces.proofs.Calls.{open-wrong, open-right, feed-wrong, feed-right, close-refused, close-accepted}
 use Rattle.pica.proofs.Uncut.{verdict-uncut}
-use Rattle.demands.specs.Both.{alone}
 use Rattle.demands.proofs.Both.{alone-besides, neither-given}
 use Rattle.demands.proofs.Alike.{Alike}
 use Rattle.demands.proofs.NeverRead.{never-read}
@@ -113,10 +112,6 @@ fed-call {p} {q} {s} {t} {l} c = go (sized s) refl (feed-call c)
 held-after : (p : Progress) (l : List ℕ) → p .come ≡ heldAt (p .come) → after p l .come ≡ heldAt (after p l .come)
 held-after p l h = rw (come-held p l h) (held-twice (p .come + length l) (decLt 65536 (p .come + length l)))
 
--- the progress after words, with their writes counted
-abbrev pub onFrom : Progress → State → List ℕ → Progress
-onFrom p s l = tallied (after p l) (plus (p .differences) (differences s (made p l)))
-
 plus-none : (d : ℕ) → d < 0x100000000 → d ≡ plus d 0
 plus-none d h = omega arith
 
@@ -129,7 +124,7 @@ module _ {M : Type 0} (call : M → State → List ℕ → M → State → Type 
     → (view n ≡ fed (view m) s l) × (t ≡ applyAll s (made (view m) l))) where
   pub joined-by : (ls : List (List ℕ)) (m n : M) (s t : State) → sized s ≡ true → FeedsBy call m s ls n t
       → view m .come ≡ heldAt (view m .come) → view m .differences < 0x100000000
-      → (view n ≡ onFrom (view m) s (joined ls)) × (t ≡ applyAll s (made (view m) (joined ls)))
+      → (view n ≡ onward (view m) s (joined ls)) × (t ≡ applyAll s (made (view m) (joined ls)))
   unfolding joined
   joined-by [] m n s t z f h d =
       let p = view m in (
@@ -158,7 +153,7 @@ module _ {M : Type 0} (call : M → State → List ℕ → M → State → Type 
 
 pub feeds-joined : (ls : List (List ℕ)) (p q : Progress) (s t : State) → sized s ≡ true → Feeds p s ls q t → p .come ≡ heldAt (p .come)
     → p .differences < 0x100000000
-    → (q ≡ onFrom p s (joined ls)) × (t ≡ applyAll s (made p (joined ls)))
+    → (q ≡ onward p s (joined ls)) × (t ≡ applyAll s (made p (joined ls)))
 feeds-joined =
     joined-by (λ p s l q t. FeedCall p s l (Come q) t) (λ p. p) (λ m n s t l z c. let k = fed-call c in (k .1, k .2))
 
@@ -173,7 +168,7 @@ alike-back a =
       lightLong = sym (a .lightLong);
     }
 
--- where both have their lengths, a close answers by the words alone
+-- where both have their lengths, a close answers by the progress alone
 pub right-answer : (live spare : State) (p : Progress) → bothSized live spare ≡ true
     → closeAnswers p live spare ≡ besides (closing p) (p .differences)
 unfolding closeAnswer closeAnswers
@@ -211,14 +206,15 @@ module _ (live s : State) (l : List ℕ) (a : sized live ≡ true) (b : sized s 
 
   -- the progress that the parts lead to
   abbrev reached : Progress
-  reached = onFrom fresh s l
+  reached = onward fresh s l
 
   abbrev pub Closes : Answers → Progress → State → State → Type 0
   Closes v q live′ spare′ =
       (v ≡ closeAnswers reached live left) × (q ≡ closeProgress reached live left)
       × (live′ ≡ closedLive reached live left) × (spare′ ≡ closedSpare reached live left)
 
-  -- no sum wraps, since a list has no more writes than words
+  -- the count on the spare state is that on the live one, which agrees in all held bits; no sum wraps, since a list has no more writes than
+  -- words
   all-counted : length l ≤ 65536 → (m : ℕ) → verdict l ≡ answered m → Words live → Words s
       → plus 0 (differences s (expansion l)) ≡ differences live (expansion l)
   all-counted h m e u v =

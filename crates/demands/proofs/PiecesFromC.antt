@@ -14,7 +14,7 @@ use denote.Triple.Clauses.{AtExit}
 use Rattle.registers.specs.State.{State, st, sized}
 use Rattle.registers.specs.Applied.{applyAll}
 use Rattle.reader.specs.Read.{readAnswers, readState}
-use Rattle.parts.specs.Progress.{fresh, made, heldAt}
+use Rattle.parts.specs.Progress.{fresh, made, heldAt, onward}
 use Rattle.pieces.specs.Pieces.{bothSized, opening, openedSpare, fed, feeding, fedSpare}
 use Rattle.pieces.specs.Pieces.{closeAnswers, closeProgress, closedLive, closedSpare}
 use Rattle.parts.specs.declared.Progress.{Progress}
@@ -33,7 +33,7 @@ use Rattle.pica.proofs.pica_read.Kinds as read-kinds
 use native.Mathlib.Omega.{arith}
 use Rattle.copies.specs.Copy.{taken}
 use Rattle.demands.proofs.Taken.{Words, taken-alike, taken-sized, taken-words}
-use Rattle.demands.proofs.Pieces.{joined, FeedsBy, Opened, both-sized, onFrom, joined-by, InPieces, by-length}
+use Rattle.demands.proofs.Pieces.{joined, FeedsBy, Opened, both-sized, joined-by, InPieces, by-length}
 
 -- CALLS: the reader's words ws, the number r that is answered
 pub record PicaOpenCall (s t : State) (ws : List ℕ) (r : ℕ) (ws′ : List ℕ) (t′ : State) : Type 0 where
@@ -94,7 +94,7 @@ feed-left : {s s′ : State} {ws ws′ l : List ℕ} → PicaFeedCall ws s l ws�
     → (ws′ ≡ readerAfter (feeding (progressOf ws) s l) ws) × (s′ ≡ fedSpare (progressOf ws) s l)
 feed-left c = let p = rw (c .spare, c .reader, c .list, c .reader-after, c .spare-after) at (c .promise) in (p .1 .0, p .1 .1)
 
-close-left : {s t s′ t′ : State} {ws ws′ ds ds′ : List ℕ} {r : ℕ} → PicaCloseCall s t ws ds r ws′ ds′ s′ t′
+pub close-left : {s t s′ t′ : State} {ws ws′ ds ds′ : List ℕ} {r : ℕ} → PicaCloseCall s t ws ds r ws′ ds′ s′ t′
     → (r ≡ answers (closeAnswers (progressOf ws) s t)) × (ws′ ≡ wordsOf (closeProgress (progressOf ws) s t))
     × (s′ ≡ closedLive (progressOf ws) s t) × (t′ ≡ closedSpare (progressOf ws) s t)
     × (ds′ ≡ differencesAfter (closeAnswers (progressOf ws) s t) ds)
@@ -155,7 +155,7 @@ module _ {live s t live′ spare′ : State} {vs us ds ds′ : List ℕ} {r : �
       let e = joined-by PicaFeedCall progressOf c-feeds ls ws vs s t (o .spare-sized) f (fresh-held (progressOf ws) (o .progress))
       (fresh-small (progressOf ws) (o .progress)) in
       let x = close-left k in
-      let p = e .0 ∙ ap (λ (y : Progress). onFrom y s (joined ls)) (o .progress) in
+      let p = e .0 ∙ ap (λ (y : Progress). onward y s (joined ls)) (o .progress) in
       let u = e .1 ∙ ap (λ (y : Progress). applyAll s (made y (joined ls))) (o .progress) in
       by-length live s (joined ls) (o .live-sized) (o .spare-sized) (o .alike) (decLt 65536 (length (joined ls))) _ _ live′ spare′ (
         pair (λ y z. closeAnswers y live z) p u,
@@ -164,7 +164,7 @@ module _ {live s t live′ spare′ : State} {vs us ds ds′ : List ℕ} {r : �
         x .3 ∙ pair (λ y z. closedSpare y live z) p u,
       )
 
-  -- the number, the word of differences, where both calls were lent the same, and the live state
+  -- the number, the live state, and, where both calls were lent the same word, the word of differences
   pub c-as-read : {q : ℕ} {es′ : List ℕ} {u : State} → Words live → Words s → PicaReadCall live (joined ls) ds q es′ u
       → (r ≡ q) × (ds′ ≡ es′) × (live′ ≡ u)
   c-as-read {q} {es′} {u} w v x =
@@ -177,7 +177,10 @@ module _ {live s t live′ spare′ : State} {vs us ds ds′ : List ℕ} {r : �
         i .state w ∙ sym (y .2),
       )
 
-  -- and the reader is as freshly opened, for the next list
+  -- and both states are 32-bit words still, and the reader is as freshly opened, for the next list
+  pub c-words : Words live → Words s → Words live′ × Words spare′
+  c-words w v = let i = c-in-pieces in (i .words w, i .spare-words v)
+
   pub c-opened : Opened live′ (progressOf us) spare′
   c-opened =
       rw (close-left k .1, progress-of-words (closeProgress (progressOf vs) live t)) (c-in-pieces .opened)

@@ -10,8 +10,8 @@ abbrev pub unlessFault : ℕ → ℕ → Answer → Answer
 unlessFault zero p rest = rest
 unlessFault (suc f) p rest = refused (suc f) p
 
--- Some calls give a second number besides their answer: both n d. A refusal gives neither of the two: neither r p has its own number and
--- place.
+-- Some calls give a second number besides their answer: `both n d`. A refusal gives neither of the two: `neither r p` is the refusal with
+-- number r and place p.
 pub data Answers : Type 0 where
   both : ℕ → ℕ → Answers
   neither : ℕ → ℕ → Answers
@@ -20,3 +20,8 @@ pub data Answers : Type 0 where
 abbrev pub besides : Answer → ℕ → Answers
 besides (answered n) d = both n d
 besides (refused r p) d = neither r p
+
+-- the answer without its second number
+abbrev pub alone : Answers → Answer
+alone (both n d) = answered n
+alone (neither r p) = refused r p

@@ -6,7 +6,7 @@ use denote.Ref.{now}
 use Rattle.numbers.specs.Settled.{Settles, settled}
 use Rattle.registers.specs.State.{st}
 use Rattle.registers.specs.Applied.{applyAll, differences}
-use Rattle.parts.specs.Progress.{plus, after, made, tallied}
+use Rattle.parts.specs.Progress.{made, onward}
 use Rattle.parts.proofs.take_part.Reads as take-part
 use Rattle.parts.proofs.take_part.Kinds as take-part-kinds
 
@@ -16,5 +16,5 @@ take-part-settled κs a =
     let s = st (now (a .1 .0)) (now (a .1 .1 .0)) (now (a .1 .1 .1 .0)) in
     let l = now (a .1 .1 .1 .1 .0) in
     let ws = made (a .0) l in
-    settled _ _ (λ r. r) (λ r r′ e. e) (tallied (after (a .0) l) (plus (a .0 .differences) (differences s ws))) (applyAll s ws)
+    settled _ _ (λ r. r) (λ r r′ e. e) (onward (a .0) s l) (applyAll s ws)
     (λ r e p. (p .0, p .1))

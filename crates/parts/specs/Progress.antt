@@ -12,7 +12,7 @@
 --   writes  the writes of all commands whose headers have come
 --   fault   the number of the first fault, 0 for none; after a command at fault none is followed
 --   differences
---           how many of the writes made so far made a difference. Words alone don't tell: all below keeps it, and feeding adds to it
+--           how many of the writes made so far made a difference. Words alone don't tell: `next` and `after` keep it, `onward` adds to it
 -- Any twelve numbers may come in: a progress that no call made goes on by the same rules. There a step may be any number, and a mask above
 -- 15 counts by its low four bits, but isn't Fh, so that port data is refused under it; and its differences may be more than its writes.
 use mathlib.Core.Bool.{Bool, _&&_}
@@ -23,6 +23,8 @@ use Rattle.numbers.specs.Pick.{pick}
 use Rattle.numbers.specs.Answer.{Answer, answered, refused}
 use Rattle.words.specs.Header.{idOf, maskOf, countOf, stepOf}
 use Rattle.words.specs.Writes.{Write, writing, faultOf}
+use Rattle.registers.specs.State.{State}
+use Rattle.registers.specs.Applied.{differences}
 use Rattle.parts.specs.declared.Progress.{Progress}
 
 -- no word has come
@@ -183,6 +185,11 @@ tallied p d =
       fault = p .fault;
       differences = d;
     }
+
+-- THE PROGRESS AFTER A PART THAT IS FED to the state s: its differences rise by those of the writes that the words make, each judged on the
+-- state left by those before it
+abbrev pub onward : Progress → State → List ℕ → Progress
+onward p s part = tallied (after p part) (plus (p .differences) (differences s (made p part)))
 
 -- no word of the command that is followed is still to come
 abbrev pub between : Progress → Bool

@@ -1,5 +1,5 @@
 // The words of a part of a list, one after another, and how many of the writes that they make made a difference. The contracts cite
-// specs/Progress.antt.
+// specs/Progress.antt and specs/Leads.antt.
 ghost use mathlib.Core.Path.{_≡_};
 ghost use Prim.Native.Nat.{_+_, _≤_, _<_, min};
 ghost use lib.ListN.{length};
@@ -11,7 +11,7 @@ ghost use Rattle.registers.specs.Tables.{LookupTables};
 ghost use Rattle.registers.specs.Applied.{applyAll, differences};
 ghost use Rattle.commands.specs.Run.{runFrom, runWith};
 ghost use Rattle.parts.specs.Leads.{Leads};
-ghost use Rattle.parts.specs.Progress.{plus, firstOf, headed, sound, next, makes, after, made, tallied};
+ghost use Rattle.parts.specs.Progress.{firstOf, headed, sound, next, makes, made, onward};
 use words::Header;
 
 // How far a reading has come: what the words so far leave for the next one to go by.
@@ -193,7 +193,7 @@ fn take_word(
 }
 
 // Writes to ids from `h.id` on, one for each of the `h.count` values that stand in `list` from `from` on: how many of them made a
-// difference. To a port's data every write does, and to one other id that isn't held none.
+// difference. To a port's data every write does.
 fn put_run(
     cells: &mut [u32],
     fog: &mut [u32],
@@ -229,9 +229,7 @@ fn put_run(
             ports::upload_light(cells, light, list, from, h.count);
             return h.count;
         }
-        if registers::bits_held(slots, held, id) == 0 {
-            return 0;
-        }
+        return commands::apply_values(cells, slots, held, h, list, from);
     }
     let mask = h.mask;
     let bytes = ports::spread_mask(mask);
@@ -529,10 +527,7 @@ pub fn take_part(
 ) -> Progress
     requires { ⌜ Lengths (now cells) (now fog) (now light) ⌝ }
     ensures progress { λ r. ⌜
-        r
-        ≡ tallied (after p (now (part .entry)))
-        (plus (p .differences)
-        (differences (st (now (cells .entry)) (now (fog .entry)) (now (light .entry))) (made p (now (part .entry)))))
+        r ≡ onward p (st (now (cells .entry)) (now (fog .entry)) (now (light .entry))) (now (part .entry))
         ⌝ }
     ensures state { λ _. ⌜
         st (now (cells .exit)) (now (fog .exit)) (now (light .exit))

@@ -3,7 +3,7 @@
 use mathlib.Core.List.{List, [], _∷_}
 use Prim.Native.Nat.{ℕ, _+_, _*_, _%_}
 use lib.ListN.{getD}
-use Rattle.numbers.specs.Answer.{Answer, answered, refused, Answers, both, neither}
+use Rattle.numbers.specs.Answer.{Answer, answered, refused, Answers, both, neither, alone}
 use Rattle.registers.specs.State.{State}
 use Rattle.settings.specs.Colours.{colourOf, wordOf}
 use Rattle.settings.specs.Flat.{flat}
@@ -25,8 +25,7 @@ answer (refused r p) = call r p
 
 -- pica_read, pica_close: the number of writes; and besides, in one word, how many of them made a difference, untouched on a refusal
 abbrev pub answers : Answers → ℕ
-answers (both n d) = call 0 n
-answers (neither r p) = call r p
+answers a = answer (alone a)
 
 abbrev pub differencesAfter : Answers → List ℕ → List ℕ
 differencesAfter (both n d) old = d ∷ []

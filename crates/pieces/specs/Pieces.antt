@@ -7,10 +7,10 @@ use Prim.Native.Nat.{ℕ}
 use Rattle.numbers.specs.Pick.{pick}
 use Rattle.numbers.specs.Answer.{Answer, answered, refused, Answers, besides}
 use Rattle.registers.specs.State.{State, sized}
-use Rattle.registers.specs.Applied.{applyAll, differences}
+use Rattle.registers.specs.Applied.{applyAll}
 use Rattle.copies.specs.Copy.{taken}
 use Rattle.reader.specs.Read.{ifAnswered}
-use Rattle.parts.specs.Progress.{fresh, plus, after, made, heldAt, counted, tallied, closing}
+use Rattle.parts.specs.Progress.{fresh, after, made, heldAt, counted, onward, closing}
 use Rattle.parts.specs.declared.Progress.{Progress}
 use Rattle.pieces.specs.declared.Going.{Going}
 use Rattle.pieces.specs.declared.Going.the-variants.{Come, Refused}
@@ -37,10 +37,9 @@ openAnswer live spare = pick (bothSized live spare) (answered 0) (refused 6 0)
 unfoldable pub openedSpare : State → State → State
 openedSpare live spare = pick (bothSized live spare) (taken spare live) spare
 
--- FEEDING a part: the progress after its words; its differences rise by those of the writes that the words make, each judged on the spare
--- state left by those before it
+-- FEEDING a part: the progress after it, with the count of words held
 abbrev pub fed : Progress → State → List ℕ → Progress
-fed p spare part = tallied (counted (after p part)) (plus (p .differences) (differences spare (made p part)))
+fed p spare part = counted (onward p spare part)
 
 unfoldable pub feeding : Progress → State → List ℕ → Going
 feeding p spare part = pick (sized spare) (Come (fed p spare part)) wrongLength
@@ -49,7 +48,7 @@ feeding p spare part = pick (sized spare) (Come (fed p spare part)) wrongLength
 unfoldable pub feedAnswer : Progress → State → List ℕ → Answer
 feedAnswer p spare part = pick (sized spare) (answered (heldAt (after p part .come))) (refused 6 0)
 
--- and the spare state is left as those writes leave it
+-- and the spare state is left as the writes that its words make leave it
 unfoldable pub fedSpare : Progress → State → List ℕ → State
 fedSpare p spare part = pick (sized spare) (applyAll spare (made p part)) spare
 

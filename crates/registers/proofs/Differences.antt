@@ -51,9 +51,8 @@ module _ (s : State) (i e v : ℕ) where
   unfolding cellsAfter
   differs-free f g b = differs-cell f g ∙ rw (b, eq-eqb (getD (s .cells) i 0) (getD (s .cells) i 0) refl)
 
--- A WRITE THAT ISN'T PORT DATA MADE A DIFFERENCE EXACTLY WHEN THE STATE AFTER IT IS ANOTHER
+-- where the cell is what it was, all cells are
 module _ (cells : List ℕ) (i e v : ℕ) where
-  -- the cell is what it was, and so all cells are
   set-same : (x : ℕ) → getD (set cells i x) i 0 ≡ getD cells i 0 → Dec (i < length cells) → set cells i x ≡ cells
   set-same x h (yes l) = rw (sym (getD-set-same cells i x 0 l) ∙ h) (set-getD cells i 0)
   set-same x h (no l) = set-out cells i x (omega arith)
@@ -67,6 +66,8 @@ not-apart : (b : Bool) → _≡_ {A = ℕ} (pick (not b) 1 0) 0 → b ≡ true
 not-apart true e = refl
 not-apart false e = absurd (omega arith)
 
+-- A WRITE THAT ISN'T PORT DATA MADE A DIFFERENCE EXACTLY WHEN THE STATE AFTER IT IS ANOTHER, told by the opposite: none exactly when it is the
+-- same
 module _ (s : State) (w : Write) (f : fogData (w .id) ≡ false) (g : lightData (w .id) ≡ false) where
   abbrev i : ℕ
   i = w .id

@@ -53,8 +53,8 @@ pub fn changed(old: u32, new: u32) -> u32
     if new == old { 0 } else { 1 }
 }
 
-// One write, of the bytes of `bytes`, and `n`, one more where it made a difference: held registers first, which are most. Counted here, and
-// not by the caller, so that a write to an id that isn't held adds nothing, not even 0.
+// One write of `value` to `id`, in the bytes of `bytes`: `n`, one more where it made a difference. Held registers come first, which are
+// most. It is counted here, and not by the caller, so that a write to an id that isn't held adds nothing, not even 0.
 pub fn put_one(
     cells: &mut [u32],
     fog: &mut [u32],

@@ -1,19 +1,18 @@
--- A run to a port's data is an upload, of which each write counts; one to another id that isn't held does nothing. The invariant of the
--- others: what is left of the run leads from here to where all of it leads, and counts, with what was counted so far, what all of it counts.
--- Assumes nothing.
+-- A run to a port's data is an upload, of which each write counts; one to another single id goes by its values. The invariant of rising ids:
+-- what is left of the run leads from here to where all of it leads, and counts, with what was counted so far, what all of it counts. Assumes
+-- nothing.
 use mathlib.Core.Path.{_≡_, refl, sym, _∙_}
-use mathlib.Core.Bool.{true, false}
+use mathlib.Core.Bool.{true}
 use Prim.Native.Nat.{_+_, _-_, _≤_}
 use native.Mathlib.Omega.{arith}
 use borrow.Author.Needs.{needs}
 use Rattle.registers.specs.State.{st, Lengths}
 use Rattle.numbers.specs.Bits.{spread}
 use Rattle.registers.specs.Applied.{applyAll, differences}
-use Rattle.registers.proofs.Differences.{differs-fog-data, differs-light-data, differs-free}
+use Rattle.registers.proofs.Differences.{differs-fog-data, differs-light-data, differences-most}
 use Rattle.commands.specs.Run.{runFrom}
 use Rattle.commands.proofs.Applying.{run-applied, run-applies, run-counted, run-counts, alike-counts}
-use Rattle.commands.specs.ToOne.{ToOne}
-use Rattle.commands.proofs.Same.{free-run}
+use Rattle.commands.proofs.Runs.{runFrom-length}
 use Rattle.commands.proofs.Uploads.{fog-run, light-run}
 use Rattle.parts.proofs.put_run.Statement.{statement}
 use Rattle.parts.proofs.put_run.Tie as tie
@@ -96,22 +95,31 @@ returns-2 c =
           (omega (arith, at-start .pre .0 .0 .0)))),
     )
 
-bits-held-requires : tie.Need-bits-held-requires Inv-loop μ-loop
-bits-held-requires c κs = search needs
+apply-values-requires : tie.Need-apply-values-requires Inv-loop μ-loop
+apply-values-requires c κs =
+    let at-if3 = c .before in
+    let at-if2 = at-if3 .before in
+    let at-if1 = at-if2 .before in
+    let p = at-if1 .before .before .before .before .before .pre in (
+      (p .0 .0 .0, p .0 .1),
+      (record { one = at-if1 .if1 .taken; noFog = at-if2 .if2 .left; noLight = at-if3 .if3 .left }, p .1 .1, p .1 .3),
+    )
+
+same-length-5 : tie.Need-same-length-5 Inv-loop μ-loop
+same-length-5 c = search needs
 
 returns-3 : tie.Need-returns-3 Inv-loop μ-loop
 returns-3 c =
-    let at-bits-held = c .before in
-    let at-if3 = at-bits-held .before in
-    let at-if2 = at-if3 .before in
-    let at-if1 = at-if2 .before in
+    let at-apply-values = c .before .before in
+    let at-if1 = at-apply-values .before .before .before .before in
     let a = at-if1 .before .before .before .before .before .args in
+    let h = a .h in
+    let e = at-apply-values .apply-values .ensures in
     let s = st (a .cells .now) (a .fog .now) (a .light .now) in
-    let z = sym (at-bits-held .bits-held .ensures) ∙ c .if4 .taken in
-    let o : ToOne (a .h) = record { one = at-if1 .if1 .taken; noFog = at-if2 .if2 .left; noLight = at-if3 .if3 .left } in
-    let none = alike-counts (a .list .now) (a .h .mask) false (a .h .id)
-    (λ t v. differs-free t (a .h .id) (spread (a .h .mask)) v (o .noFog) (o .noLight) z) s (a .from) (a .h .count) in
-    rw (at-if1 .if1 .taken) ((sym none, omega arith), sym (free-run (a .h) o (a .list .now) z s (a .from) (a .h .count)))
+    let n = e .0 (a .fog .now) (a .light .now) in
+    let ws = runFrom (a .list .now) (a .from) (h .count) (h .id) (h .mask) 0 in
+    let few = runFrom-length (a .list .now) (a .from) (h .count) (h .id) (h .mask) 0 in
+    rw (at-if1 .if1 .taken) ((n, omega (arith, n, few, differences-most s ws)), e .1 (a .fog .now) (a .light .now))
 
 spread-mask-requires : tie.Need-spread-mask-requires Inv-loop μ-loop
 spread-mask-requires c κs = search needs
@@ -180,14 +188,14 @@ loop-again c =
       rw (w .ensures .1, at-spread-mask .spread-mask .ensures) (omega (arith, k, d, o .inv .5)),
     )
 
-same-length-5 : tie.Need-same-length-5 Inv-loop μ-loop
-same-length-5 c = search needs
-
 same-length-6 : tie.Need-same-length-6 Inv-loop μ-loop
 same-length-6 c = search needs
 
 same-length-7 : tie.Need-same-length-7 Inv-loop μ-loop
 same-length-7 c = search needs
+
+same-length-8 : tie.Need-same-length-8 Inv-loop μ-loop
+same-length-8 c = search needs
 
 returns-4 : tie.Need-returns-4 Inv-loop μ-loop
 returns-4 c =
@@ -216,7 +224,8 @@ put-run-spec =
     same-length-3
     same-length-4
     returns-2
-    bits-held-requires
+    apply-values-requires
+    same-length-5
     returns-3
     spread-mask-requires
     loop-holds
@@ -228,7 +237,7 @@ put-run-spec =
     sub-left
     loop-less
     loop-again
-    same-length-5
     same-length-6
     same-length-7
+    same-length-8
     returns-4)
