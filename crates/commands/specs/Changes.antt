@@ -1,5 +1,5 @@
--- How often the values of a command to one id change its cell. Not of the document: law `held-counts` says that as many of its writes made a
--- difference.
+-- How often the values of a command to one id change its cell. Not of the document: law `held-counts` says that as many of its writes made
+-- a difference.
 use mathlib.Core.Bool.{not}
 use mathlib.Core.List.{List}
 use Prim.Native.Nat.{ℕ, zero, suc, _+_}

@@ -35,8 +35,8 @@ pub fn is_clear(first: u32, last: u32, mask: u32) -> bool
         & ((mask == 15) | ((last < 0xE8) | (0xEF < first)) & ((last < 0x1C8) | (0x1CF < first)))
 }
 
-// A command to rising ids, one write after another: its first value is `first`, the others stand in `list` from `from` on. Tells how many of
-// its writes made a difference.
+// A command to rising ids, one write after another: its first value is `first`, the others stand in `list` from `from` on. Tells how many
+// of its writes made a difference.
 fn apply_rising(
     cells: &mut [u32],
     fog: &mut [u32],

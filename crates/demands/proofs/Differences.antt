@@ -121,8 +121,8 @@ module _ {s t : State} {l : List ℕ} {c : Counts} (r : ReadCall s l (reading.Ac
       let q : differences s (expansion l) ≡ 0 = sym (read-counts .1) ∙ z in
       let n = no-differences-no-data s a b w (rw e at q) in rw (n .0, n .1)
 
--- "A refused list gives neither count": the answer of a refusal holds none, and for C the word that was lent stays, at reading and at a close
--- from any reader's words, whatever is refused
+-- "A refused list gives neither count": the answer of a refusal holds none, and for C the word that was lent stays, at reading and at a
+-- close from any reader's words, whatever is refused
 after-refusal : (a : Answer) (d r : ℕ) (ds ds′ : List ℕ) → r ≡ answers (besides a d) → ds′ ≡ differencesAfter (besides a d) ds
     → (r / 0x100000000 ≡ 0 → ⊥) → ds′ ≡ ds
 after-refusal (answered n) d r ds ds′ e f h = absurd (h (omega (arith, e)))

@@ -28,7 +28,8 @@ use Rattle.demands.proofs.Alike.{Alike}
 use Rattle.demands.proofs.Taken.{sized-kept, taken-alike}
 use Rattle.demands.proofs.Beside.{Beside, beside-same, beside-run, beside-taken}
 use Rattle.demands.proofs.Calls.{OpenCall, open-call, FeedCall, feed-call, CloseCall, close-call}
-use Rattle.demands.proofs.Pieces.{both-sized, right-answer, fed-call}
+use Rattle.demands.proofs.Feeds.{fed-call}
+use Rattle.demands.proofs.Pieces.{both-sized, right-answer}
 
 -- RIGHT LENGTHS are never refused by open and feed, and a close then answers by the progress alone
 pub open-answers : {live spare t : State} {a : Going} → OpenCall live spare a t → bothSized live spare ≡ true

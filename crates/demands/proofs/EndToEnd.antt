@@ -12,7 +12,7 @@ use lib.ListN.{length, take, drop}
 use lib.Seq.{take-at, drop-at}
 use borrow.Author.Tests.{ltb-false, eq-eqb}
 use Rattle.numbers.specs.Pick.{pick}
-use Rattle.numbers.specs.Answer.{answered, unlessFault}
+use Rattle.numbers.specs.Answer.{answered, unlessFault, both}
 use Rattle.numbers.specs.Bits.{spread}
 use Rattle.numbers.proofs.Answers.{told-apart}
 use Rattle.words.specs.Writes.{Write, faultOf, allowed}
@@ -24,7 +24,7 @@ use Rattle.registers.specs.Applied.{apply, applyAll, differs, difference, diffe
 use Rattle.registers.specs.Single.{refusalOf, unless}
 use Rattle.registers.specs.declared.Written.the-variants as written
 use Rattle.reader.specs.ListVerdict.{allAllowed}
-use Rattle.reader.specs.Read.{toldBoth, readAnswer, readAnswers, readState}
+use Rattle.reader.specs.Read.{readAnswer, readAnswers, readState}
 use Rattle.reader.specs.declared.Counts.{Counts}
 use Rattle.reader.specs.declared.Reading.{Reading}
 use Rattle.reader.specs.declared.Reading.the-variants as reading
@@ -185,8 +185,7 @@ pack-then-read {is} {ms} {vs} {old} {new} {n} {s} {t} {r} p c z =
     let back = reads-back is ms vs (G .masks, G .values) (G .few) (given-said is ms vs G) s z in
     let q = read-call c in
     let long = writes-length is ms vs (G .masks) (G .values) in
-    let e : readAnswers s (take n new) ≡ toldBoth (reading.Accepted (record { writes = length is; differences = differences s (writes is ms vs) })) =
-    rw (put, back .0, back .1, long) in
+    let e : readAnswers s (take n new) ≡ both (length is) (differences s (writes is ms vs)) = rw (put, back .0, back .1, long) in
     (both-one r _ (q .0 ∙ e), q .1 ∙ ap (readState s) put ∙ back .2)
 
 held-settings : (s : State) (x : Settings) (t : Bool) → decodable s ≡ t → decodedOf s ≡ decoded.Held x

@@ -1,5 +1,5 @@
--- What a C caller takes out of a call's one number, `pica_number` and `pica_value`, is the answer of the function below it, whole, of reading
--- and closing without the second number: so the rows of the table hold of the C functions too. Assumes nothing.
+-- What a C caller takes out of a call's one number, `pica_number` and `pica_value`, is the answer of the function below it, whole, of
+-- reading and closing without the second number: so the rows of the table hold of the C functions too. Assumes nothing.
 use mathlib.Core.Path.{_≡_, refl, sym, ap, _∙_}
 use mathlib.Core.Bool.{Bool, true, false}
 use mathlib.Core.List.{List, [], _∷_}

@@ -18,6 +18,7 @@ pub mod Calls
 pub mod Both
 pub mod Differ
 pub mod Tallies
+pub mod Feeds
 pub mod Pieces
 pub mod EachCall
 pub mod EndToEnd

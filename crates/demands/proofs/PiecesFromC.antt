@@ -33,7 +33,8 @@ use Rattle.pica.proofs.pica_read.Kinds as read-kinds
 use native.Mathlib.Omega.{arith}
 use Rattle.copies.specs.Copy.{taken}
 use Rattle.demands.proofs.Taken.{Words, taken-alike, taken-sized, taken-words}
-use Rattle.demands.proofs.Pieces.{joined, FeedsBy, Opened, both-sized, joined-by, InPieces, by-length}
+use Rattle.demands.proofs.Feeds.{joined, FeedsBy, joined-by}
+use Rattle.demands.proofs.Pieces.{Opened, both-sized, InPieces, by-length}
 
 -- CALLS: the reader's words ws, the number r that is answered
 pub record PicaOpenCall (s t : State) (ws : List ℕ) (r : ℕ) (ws′ : List ℕ) (t′ : State) : Type 0 where

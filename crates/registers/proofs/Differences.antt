@@ -66,8 +66,8 @@ not-apart : (b : Bool) → _≡_ {A = ℕ} (pick (not b) 1 0) 0 → b ≡ true
 not-apart true e = refl
 not-apart false e = absurd (omega arith)
 
--- A WRITE THAT ISN'T PORT DATA MADE A DIFFERENCE EXACTLY WHEN THE STATE AFTER IT IS ANOTHER, told by the opposite: none exactly when it is the
--- same
+-- A WRITE THAT ISN'T PORT DATA MADE A DIFFERENCE EXACTLY WHEN THE STATE AFTER IT IS ANOTHER, told by the opposite: none exactly when it is
+-- the same
 module _ (s : State) (w : Write) (f : fogData (w .id) ≡ false) (g : lightData (w .id) ≡ false) where
   abbrev i : ℕ
   i = w .id

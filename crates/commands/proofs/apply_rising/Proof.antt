@@ -60,7 +60,8 @@ add-j : tie.Need-add-j Inv-loop μ-loop
 add-j c =
     let at-loop-test = c .before .before .before .before .before .before .before .before .before .before .before in
     let at-loop = at-loop-test .before in
-    let at-start = at-loop .before .before .before .before .before .before .before .before .before .before .before .before .before .before .before .before .before in
+    let at-put-one = at-loop .before .before .before .before .before .before .before .before in
+    let at-start = at-put-one .before .before .before .before .before .before .before .before .before in
     let o = at-loop .loop in
     omega (arith, at-start .good, at-start .pre .1 .3, o .inv .1, at-loop-test .loop-test .taken)
 
@@ -68,7 +69,8 @@ add-id-2 : tie.Need-add-id-2 Inv-loop μ-loop
 add-id-2 c =
     let at-loop-test = c .before .before .before .before .before .before .before .before .before .before .before in
     let at-loop = at-loop-test .before in
-    let at-start = at-loop .before .before .before .before .before .before .before .before .before .before .before .before .before .before .before .before .before in
+    let at-put-one = at-loop .before .before .before .before .before .before .before .before in
+    let at-start = at-put-one .before .before .before .before .before .before .before .before .before in
     let o = at-loop .loop in
     omega (arith, at-start .pre .1 .0, at-start .pre .1 .1, o .inv .2, at-loop-test .loop-test .taken)
 
@@ -126,7 +128,8 @@ returns c =
     let z = run-counted (a .list .now) (a .h .mask) t (o .j) (o .left) (o .id) 1 (c .loop-test .left) in
     let i = rw (p .1) at (o .inv .5) in
     let h = a .h in
-    let m = differences-more s (writing (h .id) (h .mask) (a .first)) (runFrom (a .list .now) (a .from) (h .count) (h .id + 1) (h .mask) 1) in (
+    let w = writing (h .id) (h .mask) (a .first) in
+    let m = differences-more s w (runFrom (a .list .now) (a .from) (h .count) (h .id + 1) (h .mask) 1) in (
       rw e (omega (arith, z, i, p .0 .0, m)),
       sym d ∙ o .inv .3 ∙ rw (p .1, e) (sym (apply-more s _ _)),
     )

@@ -33,7 +33,8 @@ changed-requires c κs = search needs
 add-n : tie.Need-add-n Inv-loop μ-loop
 add-n c =
     let at-loop = c .before .before .before .before in
-    omega (arith, c .changed .ensures .1, at-loop .loop .inv .1, at-loop .before .before .pre .0, c .before .before .before .loop-test .taken)
+    let t = c .before .before .before .loop-test .taken in
+    omega (arith, c .changed .ensures .1, at-loop .loop .inv .1, at-loop .before .before .pre .0, t)
 
 add-k : tie.Need-add-k Inv-loop μ-loop
 add-k c =

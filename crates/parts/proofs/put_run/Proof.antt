@@ -1,6 +1,6 @@
--- A run to a port's data is an upload, of which each write counts; one to another single id goes by its values. The invariant of rising ids:
--- what is left of the run leads from here to where all of it leads, and counts, with what was counted so far, what all of it counts. Assumes
--- nothing.
+-- A run to a port's data is an upload, of which each write counts; one to another single id goes by its values. The invariant of rising
+-- ids: what is left of the run leads from here to where all of it leads, and counts, with what was counted so far, what all of it counts.
+-- Assumes nothing.
 use mathlib.Core.Path.{_≡_, refl, sym, _∙_}
 use mathlib.Core.Bool.{true}
 use Prim.Native.Nat.{_+_, _-_, _≤_}

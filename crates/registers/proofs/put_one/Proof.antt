@@ -19,7 +19,9 @@ id-of c = rw (c .before .before .before .before .pre .1 .1, c .row-for .ensures 
 
 -- it is the id that is written to, which so has a cell and these bits
 right : (c : tie.Then1)
-    → (getD (c .before .before .before .before .before .before .args .held .now) (c .before .before .row-for .result + 1) 0 ≡ bitsOf (c .before .before .before .before .before .before .args .id)) × Has (c .before .before .before .before .before .before .args .id)
+    → (getD (c .before .before .before .before .before .before .args .held .now) (c .before .before .row-for .result + 1) 0
+    ≡ bitsOf (c .before .before .before .before .before .before .args .id))
+    × Has (c .before .before .before .before .before .before .args .id)
 right c =
     let at-row = c .before .before in
     let at-start = at-row .before .before .before .before in
