@@ -1,14 +1,14 @@
 -- A command whose ids are clear of all that is refused has no write at fault. Assumes nothing.
 use mathlib.Core.Path.{_≡_, refl}
 use mathlib.Core.Bool.{Bool, true, false, not, _&&_, _||_, and-false}
-use Prim.Native.Nat.{ℕ, _≤_, _<_}
+use Prim.Native.Nat.{ℕ, zero, suc, _+_, _-_, _≤_, _<_}
 use native.Mathlib.Omega.{arith}
 use lib.Dec.{leb, ltb, eqb}
 use borrow.Author.Tests.{leb-true, ltb-true, lt-leb, le-ltb, ne-eqb}
-use Rattle.numbers.specs.Pick.{within}
+use Rattle.numbers.specs.Pick.{pick, within}
 use Rattle.numbers.proofs.Tests.{and-true}
 use Rattle.words.specs.Writes.{jumps, portData, faultOf}
-use Rattle.commands.specs.Clear.{clear}
+use Rattle.commands.specs.Clear.{lastId, clear}
 
 -- a range that ends below lo or starts above hi has no id of lo..hi
 apart : (b : Bool) (i j k lo hi : ℕ) → ltb j lo ≡ b → (b || ltb hi i) ≡ true → i ≤ k → k ≤ j → within lo hi k ≡ false
@@ -36,3 +36,34 @@ clear-fault i j k m t p q =
     let v = and-true (leb j 0x2FF) (ltb j 0x23C || ltb 0x23D i) (u .0) in
     let s : j ≤ 0x2FF = leb-true j 0x2FF (v .0) in
     rw (le-ltb 0x2FF k (omega arith), no-jump (ltb j 0x23C) i j k refl (v .1) p q, no-port (eqb m 15) i j k m refl (u .1) p q)
+
+-- THE LAST ID of a run
+
+-- ids stay, or rise by one
+pub last-on : (d i n : ℕ) → d ≤ 1 → lastId (i + d) n d ≡ lastId i (suc n) d
+last-on zero i n h = omega arith
+last-on (suc zero) i n h = let e : i + 1 + n ≡ i + suc n = omega arith in e
+last-on (suc (suc d)) i n h = absurd (omega arith)
+
+pub last-before : (d i n : ℕ) → d ≤ 1 → 0 < n → lastId (i + d) (n - 1) d ≡ lastId i n d
+last-before d i zero h z = absurd (omega arith)
+last-before d i (suc n) h z = let e : suc n - 1 ≡ n = omega arith in rw e (last-on d i n h)
+
+pub last-none : (d i : ℕ) → lastId i 0 d ≡ i
+last-none d i = go (eqb d 0)
+  where
+    go : (b : Bool) → pick b i (i + 0) ≡ i
+    go true = refl
+    go false = omega arith
+
+pub next-within : (d i n : ℕ) → d ≤ 1 → i + d ≤ lastId i (suc n) d
+next-within zero i n h = omega arith
+next-within (suc zero) i n h = let e : i + 1 ≤ i + suc n = omega arith in e
+next-within (suc (suc d)) i n h = absurd (omega arith)
+
+pub first-within : (d i n : ℕ) → i ≤ lastId i n d
+first-within d i n = go (eqb d 0)
+  where
+    go : (b : Bool) → i ≤ pick b i (i + n)
+    go true = omega arith
+    go false = omega arith

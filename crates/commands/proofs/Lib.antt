@@ -4,4 +4,5 @@ pub mod Uploads
 pub mod Changes
 pub mod Same
 pub mod Clearing
+pub mod Dropped
 pub mod Once

@@ -6,12 +6,15 @@ use contract.Lifetimes.{Lfts}
 use borrow.Fn.Kinds.{Dens}
 use denote.Ref.{now}
 use Rattle.numbers.specs.Settled.{Settles, settled}
+use Rattle.words.specs.Header.{addsWith}
 use Rattle.registers.specs.State.{State, st}
 use Rattle.registers.specs.Applied.{applyAll, differences}
 use Rattle.commands.specs.Run.{runFrom, runWith}
 use Rattle.commands.specs.Clear.{lastId, clear}
 use Rattle.commands.proofs.last_id.Reads as last-id
 use Rattle.commands.proofs.last_id.Kinds as last-id-kinds
+use Rattle.commands.proofs.added.Reads as added
+use Rattle.commands.proofs.added.Kinds as added-kinds
 use Rattle.commands.proofs.is_clear.Reads as is-clear
 use Rattle.commands.proofs.is_clear.Kinds as is-clear-kinds
 use Rattle.commands.proofs.apply_values.Reads as apply-values
@@ -21,6 +24,9 @@ use Rattle.commands.proofs.apply_run.Kinds as apply-run-kinds
 
 pub last-id-settled : (κs : Lfts 0) (a : Dens κs last-id-kinds.ps) → Settles (λ e. tt {0}) (last-id.Post κs a)
 last-id-settled κs a = settled _ _ (λ r. r) (λ r r′ e. e) (lastId (a .0) (a .1 .0) (a .1 .1 .0)) tt (λ r e p. (p, refl))
+
+pub added-settled : (κs : Lfts 0) (a : Dens κs added-kinds.ps) → Settles (λ e. tt {0}) (added.Post κs a)
+added-settled κs a = settled _ _ (λ r. r) (λ r r′ e. e) (addsWith (a .0) (a .1 .0)) tt (λ r e p. (p .0, refl))
 
 pub is-clear-settled : (κs : Lfts 0) (a : Dens κs is-clear-kinds.ps) → Settles (λ e. tt {0}) (is-clear.Post κs a)
 is-clear-settled κs a = settled _ _ (λ r. r) (λ r r′ e. e) (clear (a .0) (a .1 .0) (a .1 .1 .0)) tt (λ r e p. (p, refl))

@@ -9,8 +9,9 @@ use borrow.Author.Tests.{ne-eqb}
 use Rattle.words.specs.Header.{idOf, maskOf, countOf, stepOf}
 use Rattle.words.specs.Writes.{writing}
 use Rattle.words.specs.Commands.{headerAt, paramAt, run, expand}
-use Rattle.words.proofs.Laws.{run-done, run-next}
-use Rattle.commands.specs.Run.{runFrom}
+use Rattle.words.proofs.Laws.{run-done, run-next, OneMask}
+use Rattle.words.specs.declared.Header.{Header}
+use Rattle.commands.specs.Run.{runFrom, runWith}
 
 pub runFrom-done : (l : List ℕ) (j n i m d : ℕ) → n ≤ 0 → runFrom l j n i m d ≡ []
 unfolding runFrom
@@ -28,6 +29,15 @@ runFrom-length l j zero i m d = rw (runFrom-done l j 0 i m d (omega arith))
 runFrom-length l j (suc n) i m d =
     let e : suc n - 1 ≡ n = omega arith in
     rw (runFrom-next l j (suc n) i m d (omega arith), e, runFrom-length l (j + 1) n (i + d) m d)
+
+-- they have one mask
+runFrom-mask : (l : List ℕ) (j n i m d : ℕ) → OneMask m (runFrom l j n i m d)
+unfolding runFrom
+runFrom-mask l j zero i m d = tt
+runFrom-mask l j (suc n) i m d = (refl, runFrom-mask l (j + 1) n (i + d) m d)
+
+pub with-mask : (h : Header) (v : ℕ) (l : List ℕ) (j : ℕ) → OneMask (h .mask) (runWith h v l j)
+with-mask h v l j = (refl, runFrom-mask l j (h .count) (h .id + h .step) (h .mask) (h .step))
 
 -- THE WRITES OF A COMMAND IN A LIST
 module _ (l : List ℕ) (at : ℕ) where

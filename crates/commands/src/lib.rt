@@ -8,6 +8,7 @@ ghost use lib.Dec.{eqb};
 ghost use lib.ListN.{length};
 ghost use Rattle.numbers.specs.Pick.{pick};
 ghost use Rattle.numbers.specs.Bits.{merge};
+ghost use Rattle.words.specs.Header.{addsWith};
 ghost use Rattle.registers.specs.State.{st, Lengths};
 ghost use Rattle.registers.specs.Tables.{LookupTables};
 ghost use Rattle.registers.specs.Applied.{applyAll, differences};
@@ -23,6 +24,14 @@ pub fn last_id(id: u32, count: u32, step: u32) -> u32
     ensures { λ r. ⌜ r ≡ lastId id count step ⌝ }
 {
     if step == 0 { id } else { id + count }
+}
+
+// How many writes a command adds to the expansion: with mask 0 none.
+pub fn added(mask: u32, count: u32) -> u32
+    requires { ⌜ count < 256 ⌝ }
+    ensures { λ r. ⌜ (r ≡ addsWith mask count) × (r ≤ count + 1) ⌝ }
+{
+    if mask == 0 { 0 } else { count + 1 }
 }
 
 // No write to an id of first..last under `mask` can be at fault: the range ends below 300h and meets neither a jump register nor, but for
@@ -206,7 +215,8 @@ pub fn apply_values(
 }
 
 // The writes of a command with the header `h`, by what it writes to: a port's data, one other id, or ids that rise. Its first value is
-// `first`, the others stand in `list` from `from` on, which is not its start. Tells how many of them made a difference.
+// `first`, the others stand in `list` from `from` on, which is not its start. Tells how many of them made a difference. Its mask isn't
+// looked at: allowed writes of mask 0, which belong to no expansion, change nothing (law `kept-same`).
 pub fn apply_run(
     cells: &mut [u32],
     fog: &mut [u32],

@@ -38,7 +38,7 @@ Most (k ∷ ks) [] = ⊥
 Most (k ∷ ks) (j ∷ js) = (j < k) ⊎ ((j ≡ k) × Most ks js)
 
 -- NOT OF THE DOCUMENT: how the answer is found. That it is the document's, the fewest words and then the most writes in the first
--- command, is said by laws alone: `least-low`, `sizes-least`, `sizes-most`, and of lists by `packed-shortest` of crate runs
+-- command, is said by laws alone: `least-low`, `sizes-least`, `sizes-most`, and of lists by `packed-rule` of crate runs
 
 -- the words of a run whose first command carries k writes, where t has the words of what is left after 1, 2, .. writes
 abbrev pub after : List ℕ → ℕ → ℕ
@@ -54,7 +54,7 @@ unfoldable pub table : {A : Type 0} → (List A → ℕ) → List A → List ℕ
 table span [] = 0 ∷ []
 table span (a ∷ l) = let t = table span l in let k = size (span (a ∷ l)) t in after t k ∷ t
 
--- THE LEAST WORDS of a run: by this choice, and that no cut takes fewer is law `least-low`
+-- THE LEAST WORDS of a run, before filling: by this choice, and that no cut takes fewer is law `least-low`
 abbrev pub least : {A : Type 0} → (List A → ℕ) → List A → ℕ
 least span l = getD (table span l) 0 0
 

@@ -12,8 +12,8 @@ use borrow.Author.Tests.{eqb-true}
 use Rattle.numbers.specs.Answer.{answered}
 use Rattle.numbers.specs.Bits.{spread}
 use Rattle.numbers.specs.Pick.{pick}
-use Rattle.words.specs.Writes.{Write, idsIn, masksIn, valuesIn, faultOf}
-use Rattle.words.specs.Commands.{expansion, wellFormed}
+use Rattle.words.specs.Writes.{Write, kept, idsIn, masksIn, valuesIn, faultOf}
+use Rattle.words.specs.Commands.{allWrites, expansion, legal, wellFormed}
 use Rattle.words.specs.declared.Refusal.{Refusal}
 use Rattle.words.proofs.Laws.{allowed-fault}
 use Rattle.registers.specs.State.{State, sized}
@@ -34,18 +34,19 @@ use Rattle.reader.proofs.Accepted.{verdict-accepted}
 use Rattle.commands.proofs.Applying.{apply-none, apply-more}
 use Rattle.reader.proofs.Once.{told-one}
 use Rattle.writes.specs.Listed.{writesAnswer}
-use Rattle.runs.specs.PackedList.{writes, Packable, packed}
+use Rattle.runs.specs.PackedList.{writes, Packable, written as list-of}
 use Rattle.runs.specs.Shortest.{Says}
-use Rattle.runs.proofs.Writes.{writes-length, rows-of, writes-rows}
-use Rattle.runs.proofs.Shortest.{says-of, packed-shortest}
-use Rattle.runs.proofs.PackedList.{packed-short}
+use Rattle.runs.proofs.Writes.{writes-length, writes-rows}
+use Rattle.runs.proofs.Shortest.{says-of, written-shortest, written-short}
+use Rattle.runs.proofs.Each.{says-packable, says-kept}
 use Rattle.packer.specs.declared.Packed.{Packed}
 use Rattle.packer.specs.declared.Packed.the-variants as packer
 use Rattle.demands.specs.Said.{Said}
 use Rattle.demands.specs.Refusals.{OneLength, WritesRefused}
 use Rattle.demands.proofs.Lengths.{apply-sized}
 use Rattle.demands.proofs.Listed.{writes-tested, writes-given, refused-writes, as-read, writes-row}
-use Rattle.demands.proofs.Said.{said-packable}
+use Rattle.demands.proofs.Reading.{legal-accepted}
+use Rattle.demands.proofs.Said.{packable-said}
 use Rattle.demands.proofs.Both.{neither-given}
 use Rattle.demands.proofs.Calls.{WriteCall, ReadCall, WritesCall, PackCall, write-call, read-call, writes-call}
 use Rattle.demands.proofs.EndToEnd.{counts-one, read-accepts, packed-put, packs}
@@ -73,8 +74,9 @@ pub record ListedIn (l is ms vs is′ ms′ vs′ : List ℕ) (n : ℕ) : Type 0
   pub level : OneLength is ms vs
   pub room : n ≤ length is
   pub short : length l ≤ 65536
+  pub legal : legal l ≡ true
   pub form : wellFormed l ≡ true
-  pub allowed : allAllowed (expansion l) ≡ true
+  pub allowed : allAllowed (allWrites l) ≡ true
   pub number : n ≡ length (expansion l)
   pub writes : writes (take n is′) (take n ms′) (take n vs′) ≡ expansion l
   pub one-length : OneLength (take n is′) (take n ms′) (take n vs′)
@@ -113,7 +115,7 @@ pub writes-listed : {l is ms vs is′ ms′ vs′ : List ℕ} {n : ℕ} → Writ
 writes-listed {l} {is} {ms} {vs} {is′} {ms′} {vs′} {n} c =
     let e = sym (writes-call c .0) in
     let t = writes-tested l is ms vs n e in
-    let v = verdict-accepted l n (t .2) in
+    let v = legal-accepted l n (t .2) in
     let i = ids-stand n c e in
     let m = masks-stand n c e in
     let x = values-stand n c e in
@@ -122,9 +124,10 @@ writes-listed {l} {is} {ms} {vs} {is′} {ms′} {vs′} {n} c =
       level = t .0;
       room = t .3;
       short = t .1;
-      form = v .0;
-      allowed = v .1;
-      number = v .2;
+      legal = v .0;
+      form = v .1;
+      allowed = v .2;
+      number = v .3;
       writes = rw (i .0, m .0, x .0) (writes-rows E);
       one-length =
           rw (i .0, m .0, x .0) (
@@ -139,9 +142,9 @@ writes-listed {l} {is} {ms} {vs} {is′} {ms′} {vs′} {n} c =
 
 -- and a list that the reader accepts, with places for its writes, is answered
 pub writes-lists : {l is ms vs is′ ms′ vs′ : List ℕ} {r : ListVerdict} → WritesCall l is ms vs r is′ ms′ vs′ → OneLength is ms vs
-    → length l ≤ 65536 → wellFormed l ≡ true → allAllowed (expansion l) ≡ true → length (expansion l) ≤ length is
+    → length l ≤ 65536 → legal l ≡ true → wellFormed l ≡ true → allAllowed (allWrites l) ≡ true → length (expansion l) ≤ length is
     → r ≡ list-verdict.Accepted (length (expansion l))
-writes-lists {l} {is} {ms} {vs} {r = r} c o h f a k = told-one r _ (writes-call c .0 ∙ writes-given l is ms vs o h f a k)
+writes-lists {l} {is} {ms} {vs} {r = r} c o h m f a k = told-one r _ (writes-call c .0 ∙ writes-given l is ms vs o h m f a k)
 
 -- "PACKING WHAT IT GIVES TAKES AT MOST THE LIST'S OWN WORDS", for a list of at most 4,096 writes: the packer's list says the same writes in
 -- no more words, or the words that it asks for are no more
@@ -154,38 +157,41 @@ writes-then-pack {l} {is} {ms} {vs} {is′} {ms′} {vs′} {old} {new} {n} {r} 
     let L = writes-listed c in
     let ws = writes (take n is′) (take n ms′) (take n vs′) in
     let says : Says ws l = says-of ws l n (writes-tested l is ms vs n (sym (writes-call c .0)) .2) (sym (L .writes)) in
-    let said : Said ws = record { list = l; short = L .short; says = says } in
     let long = writes-length (take n is′) (take n ms′) (take n vs′) (L .one-length .0) (L .one-length .1) in
     let few : length (take n is′) ≤ 4096 = omega (arith, few, L .number, long, ap length (L .writes)) in
+    let said : Said ws = packable-said ws (omega (arith, long, few)) (says-packable ws l says) in
+    let own : Says (kept ws) l = rw (says-kept ws l says) says in
+    let same : kept ws ≡ expansion l = says-kept ws l says ∙ L .writes in
     ⊎-elim
-    (λ x. (x .0, omega (arith, x .3 .shortest .least l says, x .3 .words), inl (x .1, rw (L .writes) at (x .3 .shortest .says))))
-    (λ x. (x .0, x .2 .least l says, inr (x .1, x .2 .lacking))) (packs p (L .one-length) few said)
+    (λ x. (x .0, omega (arith, x .3 .shortest .least l own, x .3 .words), inl (x .1, rw same at (x .3 .shortest .says))))
+    (λ x. (x .0, x .2 .least l own, inr (x .1, x .2 .lacking))) (packs p (L .one-length) few said)
 
--- "THE WRITES OF A PACKED LIST ARE THE RUN", in buffers with places for it
+-- "THE WRITES OF A PACKED LIST ARE THE RUN", but for its writes of mask 0, in buffers with places for it
 pub pack-then-writes : {is ms vs old new js ks us js′ ks′ us′ : List ℕ} {n : ℕ} {r : ListVerdict}
     → PackCall is ms vs old (packer.Words n) new → WritesCall (take n new) js ks us r js′ ks′ us′ → OneLength js ks us
-    → length is ≤ length js
-    → (r ≡ list-verdict.Accepted (length is)) × (take (length is) js′ ≡ is) × (take (length is) ks′ ≡ ms) × (take (length is) us′ ≡ vs)
+    → let ws = kept (writes is ms vs) in
+    length ws ≤ length js
+    → (r ≡ list-verdict.Accepted (length ws)) × (take (length ws) js′ ≡ idsIn ws) × (take (length ws) ks′ ≡ masksIn ws)
+    × (take (length ws) us′ ≡ valuesIn ws)
 pack-then-writes {is} {ms} {vs} {old} {new} {js} {ks} {us} {n = n} {r} p c o k =
     let put = packed-put p in
     let G = put .0 in
-    let ws = writes is ms vs in
+    let ws = kept (writes is ms vs) in
     let l = take n new in
-    let e : l ≡ packed ws = put .1 in
-    let S = packed-shortest ws (G .packable) in
+    let e : l ≡ list-of (writes is ms vs) = put .1 in
+    let S = written-shortest (writes is ms vs) (G .packable) in
     let long = writes-length is ms vs (G .masks) (G .values) in
     let x : expansion l ≡ ws = ap expansion e ∙ S .says .writes in
-    let v : verdict l ≡ answered (length is) = ap verdict e ∙ S .says .accepted ∙ ap answered long in
-    let a = verdict-accepted l (length is) v in
-    let short : length l ≤ 65536 = omega (arith, ap length e, packed-short ws, long, G .few) in
-    let many : length (expansion l) ≡ length is = sym (a .2) in
-    let ans : writesAnswer l js ks us ≡ answered (length is) =
-    writes-given l js ks us o short (a .0) (a .1) (omega (arith, many)) ∙ ap answered many in
-    let rows = rows-of is ms vs (G .masks) (G .values) in (
+    let v : verdict l ≡ answered (length ws) = ap verdict e ∙ S .says .accepted in
+    let a = legal-accepted l (length ws) v in
+    let short : length l ≤ 65536 = omega (arith, ap length e, written-short (writes is ms vs), long, G .few) in
+    let many : length (expansion l) ≡ length ws = sym (a .3) in
+    let ans : writesAnswer l js ks us ≡ answered (length ws) =
+    writes-given l js ks us o short (a .0) (a .1) (a .2) (omega (arith, many)) ∙ ap answered many in (
       told-one r _ (writes-call c .0 ∙ ans),
-      ids-stand (length is) c ans .0 ∙ ap idsIn x ∙ rows .0,
-      masks-stand (length is) c ans .0 ∙ ap masksIn x ∙ rows .1,
-      values-stand (length is) c ans .0 ∙ ap valuesIn x ∙ rows .2,
+      ids-stand (length ws) c ans .0 ∙ ap idsIn x,
+      masks-stand (length ws) c ans .0 ∙ ap masksIn x,
+      values-stand (length ws) c ans .0 ∙ ap valuesIn x,
     )
 
 -- "APPLYING THEM ONE AFTER ANOTHER LEAVES WHAT READING LEAVES"
@@ -240,8 +246,8 @@ writes-then-write {l} {is} {ms} {vs} {is′} {ms′} {vs′} {n} {s} {t} {u} {r}
     let L = writes-listed c in
     let ws = writes (take n is′) (take n ms′) (take n vs′) in
     let v = writes-tested l is ms vs n (sym (writes-call c .0)) .2 in
-    let p = said-packable ws (record { list = l; short = L .short; says = says-of ws l n v (sym (L .writes)) }) in
-    let q = read-accepts d (record { lengths = z; short = L .short; form = L .form; allowed = L .allowed }) in
+    let p = says-packable ws l (says-of ws l n v (sym (L .writes))) in
+    let q = read-accepts d (record { lengths = z; short = L .short; legal = L .legal; form = L .form; allowed = L .allowed }) in
     let x = in-turn ws s t z p w in
     let told : differences s (expansion l) ≡ tally s ws t w = ap (differences s) (sym (L .writes)) ∙ sym (x .2) in (
       x .0,

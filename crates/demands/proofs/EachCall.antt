@@ -3,7 +3,7 @@ use mathlib.Core.Path.{_≡_, refl, sym, ap, _∙_}
 use mathlib.Core.Bool.{Bool, true, false}
 use mathlib.Core.List.{List, [], _∷_}
 use mathlib.Core.Logic.{inl, inr}
-use Prim.Native.Nat.{ℕ, _≤_, _<_}
+use Prim.Native.Nat.{ℕ, _%_, _≤_, _<_}
 use native.Mathlib.Decide.{decLt}
 use native.Mathlib.Omega.{arith}
 use lib.Dec.{eqb, ltb}
@@ -16,6 +16,7 @@ use Rattle.reader.specs.Read.{toldBoth}
 use Rattle.registers.specs.Applied.{applyAll}
 use Rattle.copies.specs.Copy.{taken}
 use Rattle.parts.specs.Progress.{fresh, after, made, heldAt, between, faultNumber, closing}
+use Rattle.parts.proofs.Closing.{closes-odd}
 use Rattle.pieces.specs.Pieces.{told, bothSized, fed}
 use Rattle.parts.specs.declared.Progress.{Progress}
 use Rattle.pieces.specs.declared.Going.{Going}
@@ -48,16 +49,18 @@ feed-answers {p} {s} {t} {l} c e =
 -- a list that is accepted has the writes that were counted
 closing-writes : (p : Progress) (n : ℕ) → closing p ≡ answered n → n ≡ p .writes
 unfolding closing
-closing-writes p n = go (ltb 65536 (p .come)) (between p) (eqb (p .fault) 0)
+closing-writes p n = go (ltb 65536 (p .come)) (eqb (p .come % 4) 0) (between p) (eqb (p .fault) 0)
   where
-    go : (l b f : Bool)
-        → pick l (refused 1 0) (pick b (pick f (answered (p .writes)) (refused (faultNumber (p .fault)) (p .place))) (refused 2 (p .place)))
+    go : (l m b f : Bool)
+        → pick l (refused 1 0)
+        (pick m (pick b (pick f (answered (p .writes)) (refused (faultNumber (p .fault)) (p .place))) (refused 2 (p .place))) (refused 15 0))
         ≡ answered n
         → n ≡ p .writes
-    go true b f e = absurd (told-apart (sym e))
-    go false false f e = absurd (told-apart (sym e))
-    go false true true e = cc
-    go false true false e = absurd (told-apart (sym e))
+    go true m b f e = absurd (told-apart (sym e))
+    go false false b f e = absurd (told-apart (sym e))
+    go false true false f e = absurd (told-apart (sym e))
+    go false true true true e = cc
+    go false true true false e = absurd (told-apart (sym e))
 
 -- "On acceptance the live state takes those of the spare", which keeps what it has; "on any other refusal the spare those of the live";
 -- "and the reader is as freshly opened". Writes and differences are those counted so far
@@ -146,33 +149,42 @@ beside-closed {p} {live} {spare} {live′} {spare′} c = go (bothSized live spa
         let r = close-wrong live spare p e in
         (rw (close-call c .2 ∙ sym (r .2)) (beside-same live), rw (close-call c .3 ∙ sym (r .3)) (beside-same spare))
 
--- ANY PROGRESS AT ALL: a close refuses by a number of the table, 1 to 5, or 6 where a length is wrong
-fault-told : (a b : Bool) → In (pick a 3 (pick b 4 5)) (1 ∷ 2 ∷ 3 ∷ 4 ∷ 5 ∷ [])
-fault-told true b = inr (inr (inl refl))
-fault-told false true = inr (inr (inr (inl refl)))
-fault-told false false = inr (inr (inr (inr (inl refl))))
+-- ANY PROGRESS AT ALL: a close refuses by a number of the table, 1, 15 or 2 to 5, or 6 where a length is wrong
+abbrev pub CloseNumber : ℕ → Type 0
+CloseNumber n = In n (1 ∷ 15 ∷ 2 ∷ 3 ∷ 4 ∷ 5 ∷ [])
+
+fault-told : (a b : Bool) → CloseNumber (pick a 3 (pick b 4 5))
+fault-told true b = inr (inr (inr (inl refl)))
+fault-told false true = inr (inr (inr (inr (inl refl))))
+fault-told false false = inr (inr (inr (inr (inr (inl refl)))))
 
 abbrev Numbered : Answer → Type 0
 Numbered (answered n) = Unit {0}
-Numbered (refused n x) = In n (1 ∷ 2 ∷ 3 ∷ 4 ∷ 5 ∷ [])
+Numbered (refused n x) = CloseNumber n
 
 close-numbered : (p : Progress) → Numbered (closing p)
 unfolding closing
-close-numbered p = go (ltb 65536 (p .come)) (between p) (eqb (p .fault) 0)
+close-numbered p = go (ltb 65536 (p .come)) (eqb (p .come % 4) 0) (between p) (eqb (p .fault) 0)
   where
-    go : (l b f : Bool)
-        → Numbered (pick l (refused 1 0) (pick b (pick f (answered (p .writes)) (refused (faultNumber (p .fault)) (p .place)))
-        (refused 2 (p .place))))
-    go true b f = inl refl
-    go false false f = inr (inl refl)
-    go false true true = tt
-    go false true false = fault-told (eqb (p .fault) 3) (eqb (p .fault) 4)
+    go : (l m b f : Bool)
+        → Numbered (pick l (refused 1 0) (pick m (pick b (pick f (answered (p .writes)) (refused (faultNumber (p .fault)) (p .place)))
+        (refused 2 (p .place))) (refused 15 0)))
+    go true m b f = inl refl
+    go false false b f = inr (inl refl)
+    go false true false f = inr (inr (inl refl))
+    go false true true true = tt
+    go false true true false = fault-told (eqb (p .fault) 3) (eqb (p .fault) 4)
 
 pub close-numbers : {p : Progress} {live spare live′ spare′ : State} {c : Closed} (n x : ℕ) → CloseCall p live spare c live′ spare′
-    → bothSized live spare ≡ true → toldBoth (c .verdict) ≡ neither n x → In n (1 ∷ 2 ∷ 3 ∷ 4 ∷ 5 ∷ [])
+    → bothSized live spare ≡ true → toldBoth (c .verdict) ≡ neither n x → CloseNumber n
 close-numbers {p} n x k e v =
     let y : closing p ≡ refused n x = neither-given (closing p) n x (p .differences) (sym v ∙ told-closing k e) in
     rw y at (close-numbered p)
+
+-- "also at the close of 1)": after 1 and before any command
+pub close-illegal : {p : Progress} {live spare live′ spare′ : State} {c : Closed} → CloseCall p live spare c live′ spare′
+    → bothSized live spare ≡ true → p .come ≤ 65536 → (p .come % 4 ≡ 0 → ⊥) → toldBoth (c .verdict) ≡ neither 15 0
+close-illegal {p} k e h m = told-closing k e ∙ rw (closes-odd p h m)
 
 -- and feeding answers at most 65,537
 pub fed-at-most : {p q : Progress} {s t : State} {l : List ℕ} → FeedCall p s l (Come q) t → q .come ≤ 65537

@@ -15,9 +15,9 @@ use Rattle.numbers.specs.Pick.{pick}
 use Rattle.numbers.specs.Answer.{answered, unlessFault, both}
 use Rattle.numbers.specs.Bits.{spread}
 use Rattle.numbers.proofs.Answers.{told-apart}
-use Rattle.words.specs.Writes.{Write, faultOf, allowed}
+use Rattle.words.specs.Writes.{Write, kept, faultOf, allowed}
 use Rattle.words.proofs.Laws.{allowed-fault}
-use Rattle.words.specs.Commands.{expansion, wellFormed}
+use Rattle.words.specs.Commands.{allWrites, expansion, legal, wellFormed}
 use Rattle.words.specs.declared.Refusal.{Refusal}
 use Rattle.registers.specs.State.{State, sized}
 use Rattle.registers.specs.Applied.{apply, applyAll, differs, difference, differences}
@@ -30,10 +30,9 @@ use Rattle.reader.specs.declared.Reading.{Reading}
 use Rattle.reader.specs.declared.Reading.the-variants as reading
 use Rattle.reader.proofs.Once.{both-one}
 use Rattle.registers.proofs.Once.{told-one as write-told-one}
-use Rattle.runs.specs.PackedList.{writes, PackableRun, packed}
+use Rattle.runs.specs.PackedList.{writes, PackableRun, written as list-of}
 use Rattle.runs.specs.Shortest.{Says, Shortest}
-use Rattle.runs.proofs.Writes.{writes-length}
-use Rattle.runs.proofs.Shortest.{packed-shortest}
+use Rattle.runs.proofs.Shortest.{written-shortest}
 use Rattle.packer.specs.declared.Packed.{Packed}
 use Rattle.packer.specs.declared.Packed.the-variants as packer
 use Rattle.packer.proofs.Once.{told-one as pack-told-one}
@@ -97,16 +96,18 @@ pub counts-one : (c d : Counts) → c .writes ≡ d .writes → c .differences �
 counts-one c d w n = rw (w, n)
 
 -- DEMAND 2: "A list is accepted exactly when it is well formed and each write is allowed; what it leaves is what its expansion leaves,
--- one masked write after another."
+-- one masked write after another." In the sense of request 3: "Lists whose words aren't a multiple of 4 are now refusal 15"; "Writes with
+-- mask 0 are still checked, but no longer belong to an expansion".
 
 -- a list that can be read, and is to be accepted
 pub record Acceptable (s : State) (l : List ℕ) : Type 0 where
   pub lengths : sized s ≡ true
   pub short : length l ≤ 65536
+  pub legal : legal l ≡ true
   pub form : wellFormed l ≡ true
-  pub allowed : allAllowed (expansion l) ≡ true
+  pub allowed : allAllowed (allWrites l) ≡ true
 
--- what reading then gives: the number of writes, and how many of them made a difference
+-- what reading then gives: the number of writes in the expansion, and how many of them made a difference
 abbrev pub countsOf : State → List ℕ → Counts
 countsOf s l = record { writes = length (expansion l); differences = differences s (expansion l) }
 
@@ -119,8 +120,8 @@ read-accepts-only {s} {t} {l} {c} r =
     let e = g .0 in
     let z = read-tested s l (c .writes) e in
     let a = accepted-only s l (z .0) (z .1) (c .writes) e in (
-      record { lengths = z .0; short = z .1; form = a .0; allowed = a .1 },
-      counts-one c (countsOf s l) (a .2) (g .1),
+      record { lengths = z .0; short = z .1; legal = a .0; form = a .1; allowed = a .2 },
+      counts-one c (countsOf s l) (a .3) (g .1),
       k .1 ∙ leaves s l (z .0) (z .1) (c .writes) e,
     )
 
@@ -129,7 +130,7 @@ pub read-accepts : {s t : State} {l : List ℕ} {r : Reading} → ReadCall s l r
 unfolding readAnswers
 read-accepts {s} {t} {l} {r} c a =
     let k = read-call c in
-    let e = accepted s l (a .lengths) (a .short) (a .form) (a .allowed) in (
+    let e = accepted s l (a .lengths) (a .short) (a .legal) (a .form) (a .allowed) in (
       both-one r (reading.Accepted (countsOf s l)) (k .0 ∙ rw e),
       k .1 ∙ leaves s l (a .lengths) (a .short) _ e,
     )
@@ -165,27 +166,28 @@ write-leaves {s} {t} {w} {d} c =
 
 -- where words are answered, the run can be packed, and its list stands in the space
 pub packed-put : {is ms vs old new : List ℕ} {n : ℕ} → PackCall is ms vs old (packer.Words n) new
-    → PackableRun is ms vs × (take n new ≡ packed (writes is ms vs))
+    → PackableRun is ms vs × (take n new ≡ list-of (writes is ms vs))
 packed-put {is} {ms} {vs} {old} {new} {n} p =
     let k = pack-call p in
     let a = answered-then is ms vs (length old) n (sym (k .0)) in
     let G = a .0 in
     let fits = room is ms vs (G .masks, G .values) (G .few) (given-said is ms vs G) old (omega (arith, a .1, a .2)) in
-    (G, ap (take n) (k .1 ∙ fits .1) ∙ take-at (packed (writes is ms vs)) _ n (sym (a .1)))
+    (G, ap (take n) (k .1 ∙ fits .1) ∙ take-at (list-of (writes is ms vs)) _ n (sym (a .1)))
 
--- "A packed list reads back as the writes that were given": what `pack` put into the space, read by `read` into any state
+-- "A packed list reads back as the writes that were given", but for those of mask 0, which "the packer drops": what `pack` put into the
+-- space, read by `read` into any state
 pub pack-then-read : {is ms vs old new : List ℕ} {n : ℕ} {s t : State} {r : Reading} → PackCall is ms vs old (packer.Words n) new
     → ReadCall s (take n new) r t → sized s ≡ true
-    → (r ≡ reading.Accepted (record { writes = length is; differences = differences s (writes is ms vs) }))
-    × (t ≡ applyAll s (writes is ms vs))
+    → let ws = kept (writes is ms vs) in
+    (r ≡ reading.Accepted (record { writes = length ws; differences = differences s ws })) × (t ≡ applyAll s ws)
 unfolding readAnswers
 pack-then-read {is} {ms} {vs} {old} {new} {n} {s} {t} {r} p c z =
     let G = packed-put p .0 in
     let put = packed-put p .1 in
+    let ws = kept (writes is ms vs) in
     let back = reads-back is ms vs (G .masks, G .values) (G .few) (given-said is ms vs G) s z in
     let q = read-call c in
-    let long = writes-length is ms vs (G .masks) (G .values) in
-    let e : readAnswers s (take n new) ≡ both (length is) (differences s (writes is ms vs)) = rw (put, back .0, back .1, long) in
+    let e : readAnswers s (take n new) ≡ both (length ws) (differences s ws) = rw (put, back .0, back .1) in
     (both-one r _ (q .0 ∙ e), q .1 ∙ ap (readState s) put ∙ back .2)
 
 held-settings : (s : State) (x : Settings) (t : Bool) → decodable s ≡ t → decodedOf s ≡ decoded.Held x
@@ -212,7 +214,8 @@ draw-answers {s} {g} {incoming} {stored} {o} c =
 
 -- DEMAND 3: "For any run of at most 4,096 writes that some accepted list could carry the packer's list has exactly that expansion, and no
 -- accepted list with that expansion has fewer words. "No room" always and only when the lent space is shorter than that, with the words
--- needed."
+-- needed." In the sense of request 3: the run's writes of mask 0 are among the 4,096 and belong to no expansion, "shortest meaning among
+-- lists of legal length", whoever packed them.
 
 -- the list is in the space, shortest, and the space past it is as it was
 pub record PackedInto (ws : List Write) (old new : List ℕ) (n : ℕ) : Type 0 where
@@ -222,21 +225,25 @@ pub record PackedInto (ws : List Write) (old new : List ℕ) (n : ℕ) : Type 0 
 
 -- there is no room: the space is as it was, and no accepted list that says the run fits it; the shortest has n words
 pub record NoRoom (ws : List Write) (old new : List ℕ) (n : ℕ) : Type 0 where
-  pub kept : new ≡ old
+  pub same : new ≡ old
   pub lacking : length old < n
   pub least : (l : List ℕ) → Says ws l → n ≤ length l
   pub met : (l : List ℕ) × Shortest ws l × (length l ≡ n)
 
 module _ {is ms vs old new : List ℕ} {r : Packed} (p : PackCall is ms vs old r new)
     (level : OneLength is ms vs) (few : length is ≤ 4096) (said : Said (writes is ms vs)) where
+  -- what is left of the run, and the list that is written for it
   abbrev ws : List Write
-  ws = writes is ms vs
+  ws = kept (writes is ms vs)
+
+  abbrev list : List ℕ
+  list = list-of (writes is ms vs)
 
   abbrev need : ℕ
-  need = length (packed ws)
+  need = length list
 
-  best : Shortest ws (packed ws)
-  best = packed-shortest ws (said-packable ws said)
+  best : Shortest ws list
+  best = written-shortest (writes is ms vs) (said-packable (writes is ms vs) said)
 
   abbrev Fits : Type 0
   Fits = (n : ℕ) × (r ≡ packer.Words n) × (n ≤ length old) × PackedInto ws old new n
@@ -249,8 +256,8 @@ module _ {is ms vs old new : List ℕ} {r : Packed} (p : PackCall is ms vs old r
       let k = pack-call p in
       let e = room is ms vs level few said old h in
       let now = k .1 ∙ e .1 in
-      let front : take need new ≡ packed ws = ap (take need) now ∙ take-at (packed ws) _ need refl in
-      let rest : drop need new ≡ drop need old = ap (drop need) now ∙ drop-at (packed ws) _ need refl in
+      let front : take need new ≡ list = ap (take need) now ∙ take-at list _ need refl in
+      let rest : drop need new ≡ drop need old = ap (drop need) now ∙ drop-at list _ need refl in
       let told = pack-told-one r (packer.Words need) (k .0 ∙ e .0) in
       (need, told, h, record { shortest = rw front best; words = ap length front; rest = rest })
 
@@ -259,8 +266,8 @@ module _ {is ms vs old new : List ℕ} {r : Packed} (p : PackCall is ms vs old r
       let k = pack-call p in
       let e = no-room is ms vs level few said old h in
       let why = pack-told-one r (packer.Refused (record { number = 10; place = need })) (k .0 ∙ e) in
-      let kept = k .1 ∙ refused-pack is ms vs old 10 need e in
-      (need, why, record { kept = kept; lacking = h; least = best .least; met = (packed ws, best, refl) })
+      let same = k .1 ∙ refused-pack is ms vs old 10 need e in
+      (need, why, record { same = same; lacking = h; least = best .least; met = (list, best, refl) })
 
   -- the shortest list where there is room for it, "no room" else, and nothing third
   pub packs : Fits ⊎ Lacks

@@ -35,7 +35,7 @@ use Rattle.fragment.specs.declared.Drawn.the-variants as drawn
 use Rattle.pica.specs.Calls.{call, answer, answers, decodeCall, givenOf, storedOf, fragmentOf, fragmentCall}
 use Rattle.pica.proofs.Uncut.{valueIn, read-uncut, feed-uncut, close-uncut, write-uncut, writes-uncut, pack-uncut}
 use Rattle.pica.proofs.Uncut.{placeOf, decode-uncut, drawnValue, fragment-uncut}
-use Rattle.demands.specs.Refusals.{In, CommandRefused, ReadRefused, WriteRefused, WritesRefused, PackRefused}
+use Rattle.demands.specs.Refusals.{In, CommandRefused, ListRefused, ReadRefused, WriteRefused, WritesRefused, PackRefused}
 use Rattle.demands.specs.FragmentRefusals.{DecodeRefused, DrawRefused}
 use Rattle.demands.proofs.Both.{answers-besides}
 use Rattle.demands.proofs.Refusals.{fault-numbered, read-row, write-row}
@@ -68,10 +68,14 @@ taken (refused r p) h z =
 command-numbered : (l : List ℕ) (n p : ℕ) → CommandRefused l n p → n ≡ 0 → ⊥
 command-numbered l n p r z = ⊎-elim (λ x. omega (arith, x .0)) (λ x. fault-numbered n (x .1) z) (r .why)
 
+list-numbered : (l : List ℕ) (n p : ℕ) → ListRefused l n p → n ≡ 0 → ⊥
+list-numbered l n p (inl r) z = omega (arith, r .0)
+list-numbered l n p (inr r) z = command-numbered l n p (r .1) z
+
 read-numbered : (s : State) (l : List ℕ) (n p : ℕ) → ReadRefused s l n p → n ≡ 0 → ⊥
 read-numbered s l n p (inl r) z = omega (arith, r .0)
 read-numbered s l n p (inr (inl r)) z = omega (arith, r .0)
-read-numbered s l n p (inr (inr r)) z = command-numbered l n p (r .2) z
+read-numbered s l n p (inr (inr r)) z = list-numbered l n p (r .2) z
 
 write-numbered : (s : State) (w : Write) (n p : ℕ) → WriteRefused s w n p → n ≡ 0 → ⊥
 write-numbered s w n p r z =
@@ -90,7 +94,7 @@ pack-numbered is ms vs room n p (inr r) z = omega (arith, r .0)
 writes-numbered : (l is ms vs : List ℕ) (n p : ℕ) → WritesRefused l is ms vs n p → n ≡ 0 → ⊥
 writes-numbered l is ms vs n p (inl r) z = omega (arith, r .0)
 writes-numbered l is ms vs n p (inr (inl r)) z = omega (arith, r .0)
-writes-numbered l is ms vs n p (inr (inr (inl r))) z = command-numbered l n p (r .2) z
+writes-numbered l is ms vs n p (inr (inr (inl r))) z = list-numbered l n p (r .2) z
 writes-numbered l is ms vs n p (inr (inr (inr r))) z = omega (arith, r .0)
 
 -- WHAT IS TAKEN OUT of the numbers that the promises of `pica_read`, `pica_write`, `pica_writes` and `pica_pack` give
@@ -140,21 +144,24 @@ feed-taken p spare l = taken (pieces.told (feeding p spare l)) (omega (arith, fe
 close-numbered : (p : Progress) (live spare : State) → Numbered (closeAnswer p live spare)
 unfolding closeAnswer closing
 close-numbered p live spare =
-    go (bothSized live spare) (ltb 65536 (p .come)) (between p) (eqb (p .fault) 0) (eqb (p .fault) 3) (eqb (p .fault) 4)
+    go (bothSized live spare) (ltb 65536 (p .come)) (eqb (p .come % 4) 0) (between p) (eqb (p .fault) 0)
+    (eqb (p .fault) 3) (eqb (p .fault) 4)
   where
-    go : (a b c d f g : Bool)
+    go : (a b m c d f g : Bool)
         → Numbered
         (pick a
         (pick b (refused 1 0)
-        (pick c (pick d (answered (p .writes)) (refused (pick f 3 (pick g 4 5)) (p .place))) (refused 2 (p .place))))
+        (pick m (pick c (pick d (answered (p .writes)) (refused (pick f 3 (pick g 4 5)) (p .place))) (refused 2 (p .place)))
+        (refused 15 0)))
         (refused 6 0))
-    go true true c d f g = above-zero 1 0 (omega arith)
-    go true false true true f g = λ n q e z. told-apart e
-    go true false true false true g = above-zero 3 (p .place) (omega arith)
-    go true false true false false true = above-zero 4 (p .place) (omega arith)
-    go true false true false false false = above-zero 5 (p .place) (omega arith)
-    go true false false d f g = above-zero 2 (p .place) (omega arith)
-    go false b c d f g = above-zero 6 0 (omega arith)
+    go true true m c d f g = above-zero 1 0 (omega arith)
+    go true false false c d f g = above-zero 15 0 (omega arith)
+    go true false true true true f g = λ n q e z. told-apart e
+    go true false true true false true g = above-zero 3 (p .place) (omega arith)
+    go true false true true false false true = above-zero 4 (p .place) (omega arith)
+    go true false true true false false false = above-zero 5 (p .place) (omega arith)
+    go true false true false d f g = above-zero 2 (p .place) (omega arith)
+    go false b m c d f g = above-zero 6 0 (omega arith)
 
 pub close-taken : (p : Progress) (live spare : State) → p .place < 0x100000000 → p .writes < 0x100000000
     → asTaken (answers (closeAnswers p live spare)) ≡ closeAnswer p live spare

@@ -27,3 +27,5 @@ pub mod Between
 pub mod FromC
 pub mod PiecesFromC
 pub mod Differences
+pub mod Dropped
+pub mod Sixteen

@@ -7,13 +7,13 @@ use mathlib.Core.Logic.{inl, inr}
 use Prim.Native.Nat.{ℕ, _≤_}
 use lib.Dec.{leb}
 use lib.ListN.{length}
-use borrow.Author.Tests.{leb-true, leb-false}
+use borrow.Author.Tests.{leb-true, leb-false, eqb-true}
 use Rattle.numbers.specs.Pick.{pick}
 use Rattle.numbers.specs.Answer.{Answer, answered, refused}
 use Rattle.numbers.specs.Room.{level, andThen, ifRoom}
 use Rattle.numbers.proofs.Answers.{told-apart, number-one, place-one}
 use Rattle.numbers.proofs.Room.{level-lengths, lengths-level, room-answered, room-refused}
-use Rattle.words.specs.Commands.{expansion, wellFormed}
+use Rattle.words.specs.Commands.{allWrites, expansion, legal, wellFormed}
 use Rattle.registers.specs.State.{State, sized}
 use Rattle.reader.specs.ListVerdict.{verdict, allAllowed}
 use Rattle.reader.specs.Read.{readAnswer}
@@ -21,6 +21,7 @@ use Rattle.reader.proofs.Accepted.{verdict-accepted, verdict-accepts}
 use Rattle.writes.specs.Listed.{writesAnswer, writesIds, writesMasks, writesValues}
 use Rattle.writes.proofs.Listed.{room}
 use Rattle.demands.specs.Refusals.{OneLength, WritesRefused}
+use Rattle.demands.proofs.Reading.{legal-accepted}
 use Rattle.demands.proofs.Refusals.{verdict-row}
 
 module _ (l is ms vs : List ℕ) where
@@ -48,10 +49,11 @@ module _ (l is ms vs : List ℕ) where
   writes-tested n e = by-tests n (level is ms vs) (leb (length l) 65536) refl refl e
 
   -- and where they are, it comes
-  pub writes-given : OneLength is ms vs → length l ≤ 65536 → wellFormed l ≡ true → allAllowed (expansion l) ≡ true → need ≤ length is
+  pub writes-given : OneLength is ms vs → length l ≤ 65536 → legal l ≡ true → wellFormed l ≡ true
+      → allAllowed (allWrites l) ≡ true → need ≤ length is
       → writesAnswer l is ms vs ≡ answered need
-  writes-given o h f a k =
-      let v = verdict-accepts l f a in
+  writes-given o h m f a k =
+      let v = verdict-accepts l (eqb-true _ _ m) f a in
       let t = lengths-level is ms vs (o .0) (o .1) in
       sym (room l is ms vs t h need v k _ _ _ refl refl refl .answer)
 
@@ -83,8 +85,8 @@ module _ (l is ms vs : List ℕ) where
       → andThen a (ifRoom 22 need (length is)) ≡ refused n p → WritesRefused l is ms vs n p
   by-verdict n p (answered m) t u v e =
       let r = room-refused 22 need (length is) n p e in
-      let a = verdict-accepted l m v in
-      inr (inr (inr (r .0, level-lengths is ms vs t, u, a .0, a .1, r .1, r .2)))
+      let a = legal-accepted l m v in
+      inr (inr (inr (r .0, level-lengths is ms vs t, u, a .0, a .1, a .2, r .1, r .2)))
   by-verdict n p (refused m q) t u v e = inr (inr (inl (level-lengths is ms vs t, u, verdict-row l n p (v ∙ e))))
 
   by-lengths : (n p : ℕ) (a b : Bool) → level is ms vs ≡ a → leb (length l) 65536 ≡ b

@@ -13,18 +13,18 @@ use Rattle.numbers.specs.Pick.{pick}
 use Rattle.numbers.specs.Answer.{Answer, refused, unlessFault, answered}
 use Rattle.numbers.proofs.Answers.{told-apart, number-one, place-one}
 use Rattle.numbers.proofs.Picks.{pick-either}
-use Rattle.words.specs.Writes.{Write, jumps, portData, faultOf}
-use Rattle.words.specs.Commands.{headerAt, whole, expand, commands}
+use Rattle.words.specs.Writes.{Write, kept, jumps, portData, faultOf}
+use Rattle.words.specs.Commands.{headerAt, whole, expand, commands, legal}
 use Rattle.words.specs.Taken.{partsOf, headOf}
 use Rattle.words.specs.declared.Refusal.{Refusal}
 use Rattle.words.specs.declared.Head.the-variants as head
 use Rattle.registers.specs.State.{State, sized}
 use Rattle.registers.specs.Applied.{difference}
 use Rattle.registers.specs.Single.{refusalOf, writeAnswer}
-use Rattle.reader.specs.ListVerdict.{firstFault, commandFault, judge, verdict}
+use Rattle.reader.specs.ListVerdict.{firstFault, commandFault, judge, judged, verdict}
 use Rattle.reader.specs.Read.{readAnswer}
-use Rattle.reader.proofs.Accepted.{judge-none, judge-more}
-use Rattle.demands.specs.Refusals.{In, FaultNumber, FirstAtFault, CommandRefused, ReadRefused, WriteRefused}
+use Rattle.reader.proofs.Accepted.{judge-none, judge-more, judged-of}
+use Rattle.demands.specs.Refusals.{In, FaultNumber, FirstAtFault, ListRefused, ReadRefused, WriteRefused}
 
 -- A WRITE'S FAULT is 3, 4 or 5
 
@@ -97,11 +97,15 @@ by-command l ps q (suc f) rest n p c e more =
 judge-refused : (l ps : List ℕ) (m n p : ℕ) → judge l ps m ≡ refused n p → FirstAtFault l ps n p
 judge-refused l [] m n p e = absurd (told-apart (sym (judge-none l m) ∙ e))
 judge-refused l (q ∷ ps) m n p e =
-    by-command l ps q (commandFault l q) _ n p refl (sym (judge-more l q ps m) ∙ e) (judge-refused l ps (m + length (expand l q)) n p)
+    by-command l ps q (commandFault l q) _ n p refl (sym (judge-more l q ps m) ∙ e) (judge-refused l ps (m + length (kept (expand l q))) n p)
 
-pub verdict-row : (l : List ℕ) (n p : ℕ) → verdict l ≡ refused n p → CommandRefused l n p
+by-legal : (l : List ℕ) (n p : ℕ) (b : Bool) → legal l ≡ b → pick b (judged l) (refused 15 0) ≡ refused n p → ListRefused l n p
+by-legal l n p true t e = inr (t, judge-refused l (commands l 0) 0 n p (sym (judged-of l) ∙ e))
+by-legal l n p false t e = inl (sym (number-one e), sym (place-one e), t)
+
+pub verdict-row : (l : List ℕ) (n p : ℕ) → verdict l ≡ refused n p → ListRefused l n p
 unfolding verdict
-verdict-row l n p e = judge-refused l (commands l 0) 0 n p e
+verdict-row l n p e = by-legal l n p (legal l) refl e
 
 by-length : (s : State) (l : List ℕ) (n p : ℕ) (a b : Bool) → sized s ≡ a → leb (length l) 65536 ≡ b
     → pick a (pick b (verdict l) (refused 1 0)) (refused 6 0) ≡ refused n p → ReadRefused s l n p

@@ -15,7 +15,7 @@ use Rattle.numbers.proofs.Answers.{told-apart, number-one, place-one}
 use Rattle.numbers.proofs.Room.{level-lengths, lengths-level, room-refused}
 use Rattle.numbers.proofs.Picks.{pick-either}
 use Rattle.words.specs.Writes.{faultOf}
-use Rattle.runs.specs.PackedList.{writes, packed}
+use Rattle.runs.specs.PackedList.{writes, written}
 use Rattle.packer.specs.Checks.{wrong, firstWrong, checkAnswer}
 use Rattle.packer.specs.Packing.{packAnswer}
 use Rattle.packer.proofs.Checks.{check-given}
@@ -79,9 +79,9 @@ check-row is ms vs n p e = by-tests is ms vs n p (level is ms vs) (leb (length i
 
 -- PACKING
 by-check : (is ms vs : List ℕ) (room n p : ℕ) (a : Answer) → checkAnswer is ms vs ≡ a
-    → andThen a (ifRoom 10 (length (packed (writes is ms vs))) room) ≡ refused n p → PackRefused is ms vs room n p
+    → andThen a (ifRoom 10 (length (written (writes is ms vs))) room) ≡ refused n p → PackRefused is ms vs room n p
 by-check is ms vs room n p (answered m) c e =
-    let r = room-refused 10 (length (packed (writes is ms vs))) room n p e in
+    let r = room-refused 10 (length (written (writes is ms vs))) room n p e in
     inr (r .0, check-given is ms vs m c, r .1, r .2)
 by-check is ms vs room n p (refused m q) c e = inl (check-row is ms vs n p (c ∙ e))
 

@@ -1,51 +1,106 @@
--- A run that is packed in parts: the parts' lists, joined, say the whole run, with at most two words a seam more than its shortest list,
--- and none for a seam that no command can go across. Assumes nothing.
-use mathlib.Core.Path.{_≡_, refl}
+-- A run that is packed in parts. The parts' lists, joined, say the whole run, each filled by itself or all of them once; filled once they have
+-- at most two words a seam more than its shortest list, and none for a seam that no command can go across. Of runs without writes of mask
+-- 0: the list written for any other run is that of what is kept of it. Assumes nothing.
+use mathlib.Core.Path.{_≡_, refl, _∙_}
 use mathlib.Core.Bool.{Bool, true, false}
 use mathlib.Core.List.{List, [], _∷_, _++_, append-nil}
-use Prim.Native.Nat.{ℕ, _+_, _*_, _≤_}
+use Prim.Native.Nat.{ℕ, _+_, _*_, _%_, _≤_}
 use native.Mathlib.Omega.{arith}
 use lib.ListN.{length, length-append}
 use Rattle.numbers.specs.Pick.{pick}
-use Rattle.words.specs.Writes.{Write}
+use Rattle.words.specs.Writes.{Write, kept}
+use Rattle.words.proofs.Laws.{kept-none, kept-append}
+use Rattle.reader.proofs.Accepted.{legal-judged}
 use Rattle.runs.specs.Span.{apart}
-use Rattle.runs.specs.PackedList.{packed}
-use Rattle.runs.specs.Shortest.{Says}
+use Rattle.runs.specs.PackedList.{Packable, packed, filled, written}
+use Rattle.runs.specs.Shortest.{Says, SaysUnfilled}
 use Rattle.runs.proofs.PackedList.{packed-none}
-use Rattle.runs.proofs.Shortest.{packed-least, packed-shortest}
+use Rattle.runs.proofs.Kept.{kept-is}
+use Rattle.runs.proofs.Filled.{packed-even, filled-none, filled-length}
+use Rattle.runs.proofs.Shortest.{packed-least, packed-rule, filled-least, filled-says, filled-shortest}
 use Rattle.runs.proofs.Seams.{packed-seam, packed-apart, apart-joined}
-use Rattle.runs.proofs.Joined.{joined-says}
-use Rattle.demands.specs.Said.{Said}
-use Rattle.demands.proofs.Said.{said-packable}
+use Rattle.runs.proofs.Joined.{joined-writes, joined-formed, joined-says}
 
--- "At most two words a seam": two parts' shortest lists have at most two words more than any accepted list that says the whole run
-pub seam : (a b : List Write) (l : List ℕ) → Says (a ++ b) l → length (packed a) + length (packed b) ≤ length l + 2
-seam a b l s = omega (arith, packed-seam a b, packed-least (a ++ b) l s)
+-- a part: allowed writes with masks from 1 to 15
+abbrev pub Part : List Write → Type 0
+Part a = Packable a × (kept a ≡ a)
 
--- ANY NUMBER OF PARTS: the run of all of them, and their packed lists one after another
+-- what is kept of any allowed run is one, with the same list
+pub kept-part : (a : List Write) → Packable a → Part (kept a) × (written (kept a) ≡ written a)
+kept-part a p = let k = kept-is a in ((k .packable p, k .live), rw (k .live))
+
+-- ANY NUMBER OF PARTS: the run of all of them, and their lists one after another, each filled, or before they are
 abbrev pub joinedRun : List (List Write) → List Write
 joinedRun [] = []
 joinedRun (a ∷ rest) = a ++ joinedRun rest
+
+abbrev pub filledLists : List (List Write) → List ℕ
+filledLists [] = []
+filledLists (a ∷ rest) = filled (packed a) ++ filledLists rest
 
 abbrev pub joinedLists : List (List Write) → List ℕ
 joinedLists [] = []
 joinedLists (a ∷ rest) = packed a ++ joinedLists rest
 
--- each part is one that some accepted list says
-abbrev pub EachSaid : List (List Write) → Type 0
-EachSaid [] = Unit {0}
-EachSaid (a ∷ rest) = Said a × EachSaid rest
+abbrev pub EachPart : List (List Write) → Type 0
+EachPart [] = Unit {0}
+EachPart (a ∷ rest) = Part a × EachPart rest
 
 -- the lists joined say the whole run, of whatever length it is; over 65,536 words a reading refuses them with 1
-pub parts-say : (rs : List (List Write)) → EachSaid rs → Says (joinedRun rs) (joinedLists rs)
-parts-say [] s = let e = packed-none [] refl in rw e at (packed-shortest [] tt .says)
+pub parts-say : (rs : List (List Write)) → EachPart rs → Says (joinedRun rs) (filledLists rs)
+parts-say [] s =
+    let e : filled (packed []) ≡ [] = rw (packed-none [] refl) (filled-none [] refl) in
+    rw e at (filled-shortest [] tt kept-none .says)
 parts-say (a ∷ rest) s =
-    joined-says a (joinedRun rest) (packed a) (joinedLists rest) (packed-shortest a (said-packable a (s .0)) .says)
+    joined-says a (joinedRun rest) (filled (packed a)) (filledLists rest) (filled-shortest a (s .0 .0) (s .0 .1) .says)
     (parts-say rest (s .1))
 
+joined-unfilled : (rs : List (List Write)) → EachPart rs → SaysUnfilled (joinedRun rs) (joinedLists rs)
+joined-unfilled [] s = let e = packed-none [] refl in rw e at (packed-rule [] tt .says)
+joined-unfilled (a ∷ rest) s =
+    let u = packed-rule a (s .0 .0) .says in
+    let v = joined-unfilled rest (s .1) in
+    record {
+      formed = joined-formed (packed a) (joinedLists rest) (u .formed) ∙ v .formed;
+      writes = joined-writes (packed a) (joinedLists rest) (u .formed) ∙ rw (u .writes, v .writes);
+    }
+
+joined-part : (rs : List (List Write)) → EachPart rs → Part (joinedRun rs)
+joined-part [] s = (tt, kept-none)
+joined-part (a ∷ rest) s =
+    let p = joined-part rest (s .1) in
+    (both-packable a (joinedRun rest) (s .0 .0) (p .0), kept-append a (joinedRun rest) ∙ rw (s .0 .1, p .1))
+  where
+    both-packable : (a b : List Write) → Packable a → Packable b → Packable (a ++ b)
+    both-packable [] b p q = q
+    both-packable (w ∷ a) b p q = (p .0, p .1, both-packable a b (p .2) q)
+
+joined-even : (rs : List (List Write)) → length (joinedLists rs) % 2 ≡ 0
+joined-even [] = refl
+joined-even (a ∷ rest) = omega (arith, length-append (packed a) (joinedLists rest), packed-even a, joined-even rest)
+
+-- and so do the lists joined before filling, and filled once
+pub once-say : (rs : List (List Write)) → EachPart rs → Says (joinedRun rs) (filled (joinedLists rs))
+once-say rs s =
+    let p = joined-part rs s in
+    rw (p .1) at (filled-says (joinedRun rs) (p .0) (joinedLists rs) (joined-unfilled rs s) (joined-even rs))
+
 -- so their words are no fewer than those of its shortest list
-pub parts-bound : (rs : List (List Write)) → EachSaid rs → length (packed (joinedRun rs)) ≤ length (joinedLists rs)
-parts-bound rs s = packed-least (joinedRun rs) (joinedLists rs) (parts-say rs s)
+pub parts-bound : (rs : List (List Write)) → EachPart rs → length (filled (packed (joinedRun rs))) ≤ length (filled (joinedLists rs))
+parts-bound rs s = filled-least (joinedRun rs) (filled (joinedLists rs)) (once-say rs s)
+
+-- each part filled by itself costs at most a pair a part
+pub pairs-bound : (rs : List (List Write)) → length (filledLists rs) ≤ length (joinedLists rs) + 2 * length rs
+pairs-bound [] = omega arith
+pairs-bound (a ∷ rest) =
+    omega (
+      arith,
+      length-append (filled (packed a)) (filledLists rest),
+      length-append (packed a) (joinedLists rest),
+      filled-length (packed a) (packed-even a),
+      packed-even a,
+      pairs-bound rest,
+    )
 
 -- HOW MANY SEAMS COUNT: those that a command may go across. Where two parts are apart none can
 abbrev pub loose : List Write → List (List Write) → ℕ
@@ -69,12 +124,35 @@ packed-seams a (b ∷ bs) n =
     omega
     (arith, packed-seams b bs (n .1), by-seam a b bs (apart a b) refl (n .0), length-append (packed a) (joinedLists (b ∷ bs)))
 
--- at most two words for each seam that counts more than those of any accepted list that says the run
+-- "At most two words a seam": before filling, at most two words for each seam that counts more than those of any accepted list that says the
+-- run
 pub seams : (a : List Write) (rest : List (List Write)) (l : List ℕ) → EachSome rest → Says (joinedRun (a ∷ rest)) l
     → length (joinedLists (a ∷ rest)) ≤ length l + 2 * loose a rest
-seams a rest l n s = omega (arith, packed-seams a rest n, packed-least (joinedRun (a ∷ rest)) l s)
+seams a rest l n s =
+    let w = joinedRun (a ∷ rest) in
+    omega (arith, packed-seams a rest n, filled-least w l s, filled-length (packed w) (packed-even w))
 
--- so where no seam counts, the parts' lists joined are as short as any that says the run: its length is known, not only bounded
-pub seams-exact : (a : List Write) (rest : List (List Write)) → EachSaid (a ∷ rest) → EachSome rest → loose a rest ≡ 0
-    → length (joinedLists (a ∷ rest)) ≡ length (packed (joinedRun (a ∷ rest)))
-seams-exact a rest s n z = omega (arith, packed-seams a rest n, parts-bound (a ∷ rest) s)
+-- filled once, that is to a multiple of 4
+pub seams-filled : (a : List Write) (rest : List (List Write)) (l : List ℕ) → EachSome rest → Says (joinedRun (a ∷ rest)) l
+    → length (filled (joinedLists (a ∷ rest))) ≤ length l + 2 * loose a rest + 2 * loose a rest % 4
+seams-filled a rest l n s =
+    let rs = a ∷ rest in
+    let even = joined-even rs in
+    let legal = legal-judged l (length (joinedRun rs)) (s .accepted) .0 in
+    omega (arith, seams a rest l n s, filled-length (joinedLists rs) even, even, legal)
+
+-- so where no seam counts, the parts' lists, joined and filled once, are as short as any that says the run: its length is known, not only
+-- bounded
+pub seams-exact : (a : List Write) (rest : List (List Write)) → EachPart (a ∷ rest) → EachSome rest → loose a rest ≡ 0
+    → length (filled (joinedLists (a ∷ rest))) ≡ length (filled (packed (joinedRun (a ∷ rest))))
+seams-exact a rest s n z =
+    let rs = a ∷ rest in
+    let w = joinedRun rs in
+    let low = packed-least w (joinedLists rs) (joined-unfilled rs s) in
+    omega (
+      arith,
+      low,
+      packed-seams a rest n,
+      filled-length (joinedLists rs) (joined-even rs),
+      filled-length (packed w) (packed-even w),
+    )

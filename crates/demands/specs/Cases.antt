@@ -1,5 +1,5 @@
--- The examples of document 01 that are marked P, as one table: each case has what the definitions give and what the document says, as
--- numbers.
+-- The examples of document 01 that are marked P, with request 3's, as one table: each case has what the definitions give and what the
+-- documents say, as numbers.
 use mathlib.Core.List.{List, [], _∷_, _++_, map}
 use Prim.Native.Nat.{ℕ, zero, suc, _+_, _*_}
 use lib.IntN.{ℤ, pos, negsuc}
@@ -53,6 +53,10 @@ state cs = st (setting cs (replicate 768 0)) (replicate 128 0) (replicate 6144 0
 abbrev reading : ℕ → ℕ → List ℕ
 reading header n = numbers (readAnswer (state []) (0 ∷ header ∷ replicate n 0))
 
+-- a write to 41 and then one of mask 0, read into a state of zeros
+abbrev then0 : ℕ → List ℕ
+then0 id = numbers (readAnswer (state []) (1 ∷ 0x000F0041 ∷ 2 ∷ id ∷ []))
+
 -- cell 107 after the value 1F71 is written to it under a mask
 abbrev cell107 : ℕ → ℕ
 cell107 m = getD (apply (state []) (writing 0x107 m 0x1F71) .cells) 0x107 0
@@ -105,12 +109,13 @@ abbrev mixed : ℕ → Colour → Colour → List ℕ
 mixed mode first second =
     drawing (cell 0xF8 0x300030 ∷ cell 0xFA mode ∷ cell 0x102 3 ∷ cell 0x107 0xF00 ∷ cell 0x113 15 ∷ []) first second 0
 
--- PACKING: mask F for each, into a space of eight words that are 9
+-- PACKING: ids, masks and values, into a space of so many words that are 9
+abbrev packingInto : ℕ → List ℕ → List ℕ → List ℕ → List ℕ
+packingInto room is ms vs = numbers (packAnswer is ms vs room) ++ packSpace is ms vs (replicate room 9)
+
+-- with mask F for each, into nine words
 abbrev packing : List ℕ → List ℕ → List ℕ
-packing is vs =
-    let ms : List ℕ = replicate (length is) 15 in
-    let space : List ℕ = replicate 8 9 in
-    numbers (packAnswer is ms vs 8) ++ packSpace is ms vs space
+packing is vs = packingInto 9 is (replicate (length is) 15) vs
 
 unfoldable pub cases : List Case
 cases =
@@ -136,9 +141,23 @@ cases =
     -- modulate 128, 128: 64. Dot3 of white and (128,128,128): 3
     ∷ case (mixed 0x10001 (grey 128 128) (grey 128 128)) (3 ∷ 64 ∷ 64 ∷ 64 ∷ 64 ∷ 0 ∷ 0 ∷ [])
     ∷ case (mixed 6 (grey 255 255) (grey 128 255)) (3 ∷ 3 ∷ 3 ∷ 3 ∷ 255 ∷ 0 ∷ 0 ∷ [])
-    -- ids 41, 41, 42, 43, mask F, values 1-4: `1 000F0041 2 802F0041 3 4`
+    -- ids 41, 41, 42, 43, mask F, values 1-4: `1 000F0041 2 802F0041 3 4`, and by request 3 "the six-word examples gain the pair `0 0`"
     ∷ case (packing (0x41 ∷ 0x41 ∷ 0x42 ∷ 0x43 ∷ []) (1 ∷ 2 ∷ 3 ∷ 4 ∷ []))
-    (0 ∷ 6 ∷ 1 ∷ 0x000F0041 ∷ 2 ∷ 0x802F0041 ∷ 3 ∷ 4 ∷ 9 ∷ 9 ∷ [])
-    -- ids 41, 41, 42, values 1-3: `1 001F0041 2 0 3 000F0042`
-    ∷ case (packing (0x41 ∷ 0x41 ∷ 0x42 ∷ []) (1 ∷ 2 ∷ 3 ∷ [])) (0 ∷ 6 ∷ 1 ∷ 0x001F0041 ∷ 2 ∷ 0 ∷ 3 ∷ 0x000F0042 ∷ 9 ∷ 9 ∷ [])
+    (0 ∷ 8 ∷ 1 ∷ 0x000F0041 ∷ 2 ∷ 0x802F0041 ∷ 3 ∷ 4 ∷ 0 ∷ 0 ∷ 9 ∷ [])
+    -- ids 41, 41, 42, values 1-3: `1 001F0041 2 0 3 000F0042`, and the pair
+    ∷ case (packing (0x41 ∷ 0x41 ∷ 0x42 ∷ []) (1 ∷ 2 ∷ 3 ∷ [])) (0 ∷ 8 ∷ 1 ∷ 0x001F0041 ∷ 2 ∷ 0 ∷ 3 ∷ 0x000F0042 ∷ 0 ∷ 0 ∷ 9 ∷ [])
+    -- of request 3: space without the pair's two words is none
+    ∷ case (packingInto 7 (0x41 ∷ 0x41 ∷ 0x42 ∷ []) (replicate 3 15) (1 ∷ 2 ∷ 3 ∷ [])) (10 ∷ 8 ∷ replicate 7 9)
+    -- a write of mask 0 parts nothing, and alone it gives the empty list; its index counts
+    ∷ case (packingInto 5 (0x41 ∷ 0x99 ∷ 0x42 ∷ []) (15 ∷ 0 ∷ 15 ∷ []) (1 ∷ 2 ∷ 3 ∷ [])) (0 ∷ 4 ∷ 1 ∷ 0x801F0041 ∷ 3 ∷ 0 ∷ 9 ∷ [])
+    ∷ case (packingInto 1 (0x41 ∷ 0x42 ∷ []) (0 ∷ 0 ∷ []) (1 ∷ 2 ∷ [])) (0 ∷ 0 ∷ 9 ∷ [])
+    ∷ case (packingInto 1 (0x41 ∷ 0x300 ∷ []) (0 ∷ 15 ∷ []) (1 ∷ 2 ∷ [])) (3 ∷ 1 ∷ 9 ∷ [])
+    -- a list of two words is 15, not 2, and of six words too, whatever its commands
+    ∷ case (reading 0x001F0041 0) (15 ∷ 0 ∷ [])
+    ∷ case (reading 0x000F0300 4) (15 ∷ 0 ∷ [])
+    -- a command of mask 0 is checked and not counted: a write to 41, then one of mask 0 to 42, to 300, to 23C, to E8
+    ∷ case (then0 0x42) (0 ∷ 1 ∷ [])
+    ∷ case (then0 0x300) (3 ∷ 2 ∷ [])
+    ∷ case (then0 0x23C) (4 ∷ 2 ∷ [])
+    ∷ case (then0 0xE8) (5 ∷ 2 ∷ [])
     ∷ []

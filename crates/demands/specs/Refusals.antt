@@ -1,5 +1,5 @@
 -- The table "Numbers given back", call by call: when a call refuses with a number, and what the place that it gives then means. The
--- writes of a list are a call of ours, with 22 of document 02.
+-- writes of a list are a call of ours, with 22 of document 02; 15 is that document's too.
 use mathlib.Core.Path.{_≡_}
 use mathlib.Core.Bool.{true, false}
 use mathlib.Core.List.{List, [], _∷_, _++_}
@@ -7,10 +7,10 @@ use mathlib.Core.Logic.{_⊎_}
 use Prim.Native.Nat.{ℕ, _≤_, _<_}
 use lib.ListN.{length, getD}
 use Rattle.words.specs.Writes.{Write, faultOf}
-use Rattle.words.specs.Commands.{whole, expand, commands, expansion, wellFormed}
+use Rattle.words.specs.Commands.{whole, expand, commands, allWrites, expansion, legal, wellFormed}
 use Rattle.registers.specs.State.{State, sized}
 use Rattle.reader.specs.ListVerdict.{firstFault, commandFault, allAllowed}
-use Rattle.runs.specs.PackedList.{writes, PackableRun, packed}
+use Rattle.runs.specs.PackedList.{writes, PackableRun, written}
 use Rattle.packer.specs.Checks.{wrong}
 
 -- x is one of these
@@ -39,23 +39,27 @@ pub record FirstAtFault (l ps : List ℕ) (n p : ℕ) : Type 0 where
 abbrev pub CommandRefused : List ℕ → ℕ → ℕ → Type 0
 CommandRefused l n p = FirstAtFault l (commands l 0) n p
 
--- READING a list into a state: 6, 1, then its commands
+-- A LIST of at most 65,536 words: 15 where its words aren't a multiple of 4, then its commands
+abbrev pub ListRefused : List ℕ → ℕ → ℕ → Type 0
+ListRefused l n p = ((n ≡ 15) × (p ≡ 0) × (legal l ≡ false)) ⊎ ((legal l ≡ true) × CommandRefused l n p)
+
+-- READING a list into a state: 6, 1, then 15 and its commands
 abbrev pub ReadRefused : State → List ℕ → ℕ → ℕ → Type 0
 ReadRefused s l n p =
     ((n ≡ 6) × (p ≡ 0) × (sized s ≡ false)) ⊎ ((n ≡ 1) × (p ≡ 0) × (sized s ≡ true) × (65536 < length l))
-    ⊎ ((sized s ≡ true) × (length l ≤ 65536) × CommandRefused l n p)
+    ⊎ ((sized s ≡ true) × (length l ≤ 65536) × ListRefused l n p)
 
 -- three buffers, ids, masks and values, are of one length
 abbrev pub OneLength : List ℕ → List ℕ → List ℕ → Type 0
 OneLength is ms vs = (length is ≡ length ms) × (length is ≡ length vs)
 
--- THE WRITES OF A LIST: 7, then the list, 1 and its commands, then 22 with the places needed, which the buffers are shorter than
+-- THE WRITES OF A LIST: 7, then the list, 1, 15 and its commands, then 22 with the places needed, which the buffers are shorter than
 abbrev pub WritesRefused : List ℕ → List ℕ → List ℕ → List ℕ → ℕ → ℕ → Type 0
 WritesRefused l is ms vs n p =
     ((n ≡ 7) × (p ≡ 0) × (OneLength is ms vs → ⊥)) ⊎ ((n ≡ 1) × (p ≡ 0) × OneLength is ms vs × (65536 < length l))
-    ⊎ (OneLength is ms vs × (length l ≤ 65536) × CommandRefused l n p)
-    ⊎ ((n ≡ 22) × OneLength is ms vs × (length l ≤ 65536) × (wellFormed l ≡ true) × (allAllowed (expansion l) ≡ true)
-    × (p ≡ length (expansion l)) × (length is < p))
+    ⊎ (OneLength is ms vs × (length l ≤ 65536) × ListRefused l n p)
+    ⊎ ((n ≡ 22) × OneLength is ms vs × (length l ≤ 65536) × (legal l ≡ true) × (wellFormed l ≡ true)
+    × (allAllowed (allWrites l) ≡ true) × (p ≡ length (expansion l)) × (length is < p))
 
 -- A SINGLE WRITE: 6, 9, then its fault; the place is 0
 pub record WriteRefused (s : State) (w : Write) (n p : ℕ) : Type 0 where
@@ -75,7 +79,7 @@ RunRefused is ms vs n p =
     ((n ≡ 7) × (p ≡ 0) × (OneLength is ms vs → ⊥)) ⊎ ((n ≡ 8) × (p ≡ 0) × OneLength is ms vs × (4096 < length is))
     ⊎ (OneLength is ms vs × (length is ≤ 4096) × OneRefused is ms n p)
 
--- PACKING: the writes, then 10 with the words needed, which the space is shorter than
+-- PACKING: the writes, then 10 with the words needed, the pair's too, which the space is shorter than
 abbrev pub PackRefused : List ℕ → List ℕ → List ℕ → ℕ → ℕ → ℕ → Type 0
 PackRefused is ms vs room n p =
-    RunRefused is ms vs n p ⊎ ((n ≡ 10) × PackableRun is ms vs × (p ≡ length (packed (writes is ms vs))) × (room < p))
+    RunRefused is ms vs n p ⊎ ((n ≡ 10) × PackableRun is ms vs × (p ≡ length (written (writes is ms vs))) × (room < p))

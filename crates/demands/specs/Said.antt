@@ -1,12 +1,19 @@
 -- The runs that "some accepted list could carry".
-use mathlib.Core.List.{List}
+use mathlib.Core.Path.{_≡_}
+use mathlib.Core.List.{List, [], _++_}
 use Prim.Native.Nat.{ℕ, _≤_}
 use lib.ListN.{length}
-use Rattle.words.specs.Writes.{Write}
-use Rattle.runs.specs.Shortest.{Says}
+use Rattle.numbers.specs.Answer.{answered}
+use Rattle.words.specs.Writes.{Write, kept}
+use Rattle.words.specs.Commands.{allWrites}
+use Rattle.reader.specs.ListVerdict.{verdict}
 
--- SOME ACCEPTED LIST SAYS THE RUN: one that isn't refused for its length, is accepted, and has the run as its expansion
+-- SOME ACCEPTED LIST CARRIES THE RUN: one that isn't refused for its length, is accepted, and has the run, with its writes of mask 0, as its
+-- writes; behind it may stand what fills the list, of mask 0 too
 pub record Said (ws : List Write) : Type 0 where
   pub list : List ℕ
   pub short : length list ≤ 65536
-  pub says : Says ws list
+  pub accepted : verdict list ≡ answered (length (kept ws))
+  pub filler : List Write
+  pub carries : allWrites list ≡ ws ++ filler
+  pub nothing : kept filler ≡ []

@@ -1,3 +1,5 @@
 pub mod Checks
 pub mod Packs
 pub mod Once
+pub mod Filling
+pub mod Keeping

@@ -1,2 +1,3 @@
 pub mod Checks
 pub mod Packing
+pub mod Keeping

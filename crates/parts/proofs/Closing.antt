@@ -1,13 +1,13 @@
 -- The close, by the tests that code makes. Assumes nothing.
 use mathlib.Core.Path.{_≡_}
 use mathlib.Core.Bool.{true, false, _&&_, and-false}
-use Prim.Native.Nat.{_+_, _≤_, _<_}
+use Prim.Native.Nat.{_+_, _%_, _≤_, _<_}
 use native.Mathlib.Decide.{decLt}
 use native.Mathlib.Omega.{arith}
 use lib.Dec.{eqb}
 use borrow.Author.Tests.{lt-ltb, le-ltb, eq-eqb, ne-eqb}
 use Rattle.numbers.specs.Answer.{answered, refused}
-use Rattle.parts.specs.Progress.{between, faultNumber, closing}
+use Rattle.parts.specs.Progress.{between, faultNumber, judgedSoFar, closing}
 use Rattle.parts.specs.declared.Progress.{Progress}
 
 module _ (p : Progress) where
@@ -15,17 +15,23 @@ module _ (p : Progress) where
   unfolding closing
   closes-long h = rw (lt-ltb 65536 (p .come) h)
 
-  pub closes-short : p .come ≤ 65536 → between p ≡ false → closing p ≡ refused 2 (p .place)
+  pub closes-odd : p .come ≤ 65536 → (p .come % 4 ≡ 0 → ⊥) → closing p ≡ refused 15 0
   unfolding closing
-  closes-short h b = rw (le-ltb 65536 (p .come) h, b)
+  closes-odd h n = rw (le-ltb 65536 (p .come) h, ne-eqb (p .come % 4) 0 n)
 
-  pub closes-accepted : p .come ≤ 65536 → between p ≡ true → p .fault ≡ 0 → closing p ≡ answered (p .writes)
+  pub closes-legal : p .come ≤ 65536 → p .come % 4 ≡ 0 → closing p ≡ judgedSoFar p
   unfolding closing
-  closes-accepted h b f = rw (le-ltb 65536 (p .come) h, b, eq-eqb (p .fault) 0 f)
+  closes-legal h n = rw (le-ltb 65536 (p .come) h, eq-eqb (p .come % 4) 0 n)
 
-  pub closes-fault : p .come ≤ 65536 → between p ≡ true → (p .fault ≡ 0 → ⊥) → closing p ≡ refused (faultNumber (p .fault)) (p .place)
-  unfolding closing
-  closes-fault h b f = rw (le-ltb 65536 (p .come) h, b, ne-eqb (p .fault) 0 f)
+  -- what the commands so far say
+  pub so-far-short : between p ≡ false → judgedSoFar p ≡ refused 2 (p .place)
+  so-far-short b = rw b
+
+  pub so-far-accepted : between p ≡ true → p .fault ≡ 0 → judgedSoFar p ≡ answered (p .writes)
+  so-far-accepted b f = rw (b, eq-eqb (p .fault) 0 f)
+
+  pub so-far-fault : between p ≡ true → (p .fault ≡ 0 → ⊥) → judgedSoFar p ≡ refused (faultNumber (p .fault)) (p .place)
+  so-far-fault b f = rw (b, ne-eqb (p .fault) 0 f)
 
   pub all-come : p .left ≡ 0 → p .pad ≡ 0 → p .begun ≡ 0 → between p ≡ true
   all-come a b c = rw (eq-eqb (p .left) 0 a, eq-eqb (p .pad) 0 b, eq-eqb (p .begun) 0 c)

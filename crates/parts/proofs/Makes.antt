@@ -7,6 +7,7 @@ use native.Mathlib.Omega.{arith}
 use lib.ListN.{length, drop, drop-of-length-le}
 use borrow.Author.Tests.{eq-eqb, ne-eqb}
 use Rattle.words.specs.Writes.{Write}
+use Rattle.words.proofs.Laws.{kept-none, kept-drops, kept-keeps}
 use Rattle.registers.specs.State.{State}
 use Rattle.registers.specs.Applied.{apply, applyAll, difference, differences}
 use Rattle.registers.proofs.Differences.{differences-none, differences-more}
@@ -18,15 +19,21 @@ use Rattle.parts.proofs.Steps.{after-none, made-none}
 pub sound-none : (s : State) (f : ℕ) (w : Write) → (f ≡ 0 → ⊥) → s ≡ applyAll s (sound f w)
 sound-none s f w h = rw (ne-eqb f 0 h) (sym (apply-none s))
 
-pub sound-one : (s : State) (f : ℕ) (w : Write) → f ≡ 0 → apply s w ≡ applyAll s (sound f w)
-sound-one s f w h = rw (eq-eqb f 0 h) (sym (apply-more s w [] ∙ apply-none (apply s w)))
+pub sound-dropped : (s : State) (f : ℕ) (w : Write) → f ≡ 0 → w .mask ≡ 0 → s ≡ applyAll s (sound f w)
+sound-dropped s f w h z = rw (eq-eqb f 0 h, kept-drops w [] z, kept-none) (sym (apply-none s))
+
+pub sound-one : (s : State) (f : ℕ) (w : Write) → f ≡ 0 → (w .mask ≡ 0 → ⊥) → apply s w ≡ applyAll s (sound f w)
+sound-one s f w h z = rw (eq-eqb f 0 h, kept-keeps w [] z, kept-none) (sym (apply-more s w [] ∙ apply-none (apply s w)))
 
 pub counts-none : (s : State) (f : ℕ) (w : Write) → (f ≡ 0 → ⊥) → 0 ≡ differences s (sound f w)
 counts-none s f w h = rw (ne-eqb f 0 h) (sym (differences-none s))
 
-pub counts-one : (s : State) (f : ℕ) (w : Write) → f ≡ 0 → difference s w ≡ differences s (sound f w)
-counts-one s f w h =
-    rw (eq-eqb f 0 h) (omega (arith, differences-more s w [], differences-none (apply s w)))
+pub counts-dropped : (s : State) (f : ℕ) (w : Write) → f ≡ 0 → w .mask ≡ 0 → 0 ≡ differences s (sound f w)
+counts-dropped s f w h z = rw (eq-eqb f 0 h, kept-drops w [] z, kept-none) (sym (differences-none s))
+
+pub counts-one : (s : State) (f : ℕ) (w : Write) → f ≡ 0 → (w .mask ≡ 0 → ⊥) → difference s w ≡ differences s (sound f w)
+counts-one s f w h z =
+    rw (eq-eqb f 0 h, kept-keeps w [] z, kept-none) (omega (arith, differences-more s w [], differences-none (apply s w)))
 
 pub first-stands : (f g : ℕ) → (f ≡ 0 → ⊥) → f ≡ firstOf f g
 first-stands f g h = rw (ne-eqb f 0 h)

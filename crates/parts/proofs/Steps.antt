@@ -9,7 +9,8 @@ use lib.ListN.{length}
 use borrow.Author.Tests.{lt-ltb, le-ltb, eq-eqb, ne-eqb}
 use Rattle.numbers.specs.Pick.{pick}
 use Rattle.words.specs.Header.{idOf, maskOf}
-use Rattle.words.specs.Writes.{Write, writing}
+use Rattle.words.specs.Writes.{Write, writing, kept}
+use Rattle.words.proofs.Laws.{kept-few}
 use Rattle.parts.specs.Progress.{plus, past, extra, padding, headed, started, passed, next, sound, makes, after, made}
 use Rattle.parts.specs.declared.Progress.{Progress}
 
@@ -69,8 +70,8 @@ module _ (p : Progress) (x : ℕ) where
   unfolding makes
   makes-most = go (ltb 65535 (p .come)) (ltb 0 (p .left)) (ltb 0 (p .pad)) (ltb 0 (p .begun)) (eqb (p .fault) 0)
     where
-      one : (f : Bool) (w : Write) → length (pick f (w ∷ []) []) ≤ 1
-      one true w = omega arith
+      one : (f : Bool) (w : Write) → length (pick f (kept (w ∷ [])) []) ≤ 1
+      one true w = kept-few (w ∷ [])
       one false w = omega arith
 
       go : (a b c d e : Bool)

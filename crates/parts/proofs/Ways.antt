@@ -10,15 +10,16 @@ use lib.ListN.{length, getD, drop, length-append}
 use lib.Seq.{drop-cons}
 use borrow.Author.Tests.{eq-eqb}
 use Rattle.numbers.specs.Pick.{pick}
-use Rattle.words.specs.Header.{idOf, maskOf, countOf, stepOf, wordsOf}
-use Rattle.words.specs.Writes.{Write, writing, faultOf}
+use Rattle.words.specs.Header.{idOf, maskOf, countOf, stepOf, wordsOf, addsOf}
+use Rattle.words.specs.Writes.{Write, writing, kept, faultOf}
+use Rattle.words.proofs.Laws.{kept-none, kept-append}
 use Rattle.registers.specs.State.{State}
 use Rattle.registers.specs.Applied.{applyAll, differences}
 use Rattle.registers.proofs.Differences.{differences-append, differences-most}
 use Rattle.commands.specs.Run.{runFrom}
 use Rattle.commands.specs.Clear.{lastId, clear}
 use Rattle.commands.proofs.Applying.{apply-append}
-use Rattle.commands.proofs.Clearing.{clear-fault}
+use Rattle.commands.proofs.Clearing.{last-on, last-before, last-none, next-within, first-within, clear-fault}
 use Rattle.commands.proofs.Runs.{runFrom-done, runFrom-next}
 use Rattle.parts.specs.Progress.{moved, plus, firstOf, padding, headed, started, after, made}
 use Rattle.parts.specs.Leads.{Leads}
@@ -77,35 +78,6 @@ module _ (l : List ℕ) where
 
 -- A RUN OF EXTRA PARAMETERS, none of them at fault
 
--- ids stay, or rise by one
-last-on : (d i n : ℕ) → d ≤ 1 → lastId (i + d) n d ≡ lastId i (suc n) d
-last-on zero i n h = omega arith
-last-on (suc zero) i n h = let e : i + 1 + n ≡ i + suc n = omega arith in e
-last-on (suc (suc d)) i n h = absurd (omega arith)
-
-last-before : (d i n : ℕ) → d ≤ 1 → 0 < n → lastId (i + d) (n - 1) d ≡ lastId i n d
-last-before d i zero h z = absurd (omega arith)
-last-before d i (suc n) h z = let e : suc n - 1 ≡ n = omega arith in rw e (last-on d i n h)
-
-last-none : (d i : ℕ) → lastId i 0 d ≡ i
-last-none d i = go (eqb d 0)
-  where
-    go : (b : Bool) → pick b i (i + 0) ≡ i
-    go true = refl
-    go false = omega arith
-
-next-within : (d i n : ℕ) → d ≤ 1 → i + d ≤ lastId i (suc n) d
-next-within zero i n h = omega arith
-next-within (suc zero) i n h = let e : i + 1 ≤ i + suc n = omega arith in e
-next-within (suc (suc d)) i n h = absurd (omega arith)
-
-first-within : (d i n : ℕ) → i ≤ lastId i n d
-first-within d i n = go (eqb d 0)
-  where
-    go : (b : Bool) → i ≤ pick b i (i + n)
-    go true = omega arith
-    go false = omega arith
-
 -- the writes to the next n ids are allowed
 abbrev pub Sound : Progress → ℕ → Type 0
 Sound p n = (k : ℕ) → p .id + p .step ≤ k → k ≤ lastId (p .id) n (p .step) → faultOf k (p .mask) ≡ 0
@@ -118,7 +90,7 @@ abbrev ranOne : Progress → Progress
 ranOne p = moved p (p .come + 1) (p .id + p .step) (p .left - 1) (p .pad) (p .fault)
 
 one-ran : (p : Progress) (x : ℕ) → p .come ≤ 65535 → 0 < p .left → p .fault ≡ 0 → p .id + p .step < 0x100000000
-    → faultOf (p .id + p .step) (p .mask) ≡ 0 → Takes p x (ranOne p) (writing (p .id + p .step) (p .mask) x ∷ [])
+    → faultOf (p .id + p .step) (p .mask) ≡ 0 → Takes p x (ranOne p) (kept (writing (p .id + p .step) (p .mask) x ∷ []))
 one-ran p x a b f s g =
     let t = takes-extra p x a b in
     let d : plus (p .id) (p .step) ≡ p .id + p .step = omega arith in
@@ -134,12 +106,13 @@ one-ran p x a b f s g =
 module _ (l : List ℕ) where
   pub ran-way : (n i : ℕ) (p : Progress) → i + n ≤ length l → p .come + n ≤ 65536 → n ≤ p .left → p .fault ≡ 0
       → p .step ≤ 1
-      → p .id + n < 0x100000000 → Sound p n → Way l p i (ran p n) (i + n) (runFrom l i n (p .id + p .step) (p .mask) (p .step))
+      → p .id + n < 0x100000000 → Sound p n → Way l p i (ran p n) (i + n) (kept (runFrom l i n (p .id + p .step) (p .mask) (p .step)))
   ran-way zero i p a b c f d e g =
       let u : i + 0 ≡ i = omega arith in
       let v : p .come + 0 ≡ p .come = omega arith in
       let w : p .left - 0 ≡ p .left = omega arith in
-      rw (u, v, w, last-none (p .step) (p .id), runFrom-done l i 0 (p .id + p .step) (p .mask) (p .step) (omega arith)) (stay l p i)
+      let none = runFrom-done l i 0 (p .id + p .step) (p .mask) (p .step) (omega arith) in
+      rw (u, v, w, last-none (p .step) (p .id), none, kept-none) (stay l p i)
   ran-way (suc n) i p a b c f d e g =
       let m : suc n - 1 ≡ n = omega arith in
       let i′ : i + 1 + n ≡ i + suc n = omega arith in
@@ -149,7 +122,8 @@ module _ (l : List ℕ) where
       let one = one-ran p (getD l i 0) (omega arith) (omega arith) f (omega arith) good in
       let rest = ran-way n (i + 1) (ranOne p) (omega arith) (omega arith) (omega arith) f d (omega arith)
       (λ k x y. g k (omega arith) (rw (last-on (p .step) (p .id) n d) at y)) in
-      rw (runFrom-next l i (suc n) (p .id + p .step) (p .mask) (p .step) (omega arith), m)
+      let first = writing (p .id + p .step) (p .mask) (getD l i 0) ∷ [] in
+      rw (runFrom-next l i (suc n) (p .id + p .step) (p .mask) (p .step) (omega arith), m, kept-append first _)
       (rw (i′, c′, l′, last-on (p .step) (p .id) n d) at
       (both-ways l p (ranOne p) (ran (ranOne p) n) i (i + 1) (i + 1 + n) _ _ (by-word l p (ranOne p) i _ (omega arith) one) rest))
 
@@ -158,7 +132,7 @@ module _ (l : List ℕ) where
       → p .step ≤ 1
       → p .id ≤ 0xFFFF → n ≤ 256 → clear (p .id + p .step) (lastId (p .id + p .step) (n - 1) (p .step)) (p .mask) ≡ true
       → Way l p i (moved p (p .come + n) (lastId (p .id + p .step) (n - 1) (p .step)) (p .left - n) (p .pad) (p .fault)) (i + n)
-      (writing (p .id + p .step) (p .mask) (getD l i 0) ∷ runFrom l (i + 1) (n - 1) (p .id + p .step + p .step) (p .mask) (p .step))
+      (kept (writing (p .id + p .step) (p .mask) (getD l i 0) ∷ runFrom l (i + 1) (n - 1) (p .id + p .step + p .step) (p .mask) (p .step)))
   run-way n i p z a b c f d e m g =
       let last : lastId (p .id + p .step) (n - 1) (p .step) ≡ lastId (p .id) n (p .step) = last-before (p .step) (p .id) n d z in
       rw (last, ← (runFrom-next l i n (p .id + p .step) (p .mask) (p .step) z))
@@ -169,7 +143,7 @@ module _ (l : List ℕ) where
   abbrev pub commanded : Progress → ℕ → ℕ → Progress
   commanded p x h =
       so-far p (p .come + wordsOf h) (p .come) x (lastId (idOf h) (countOf h) (stepOf h)) (maskOf h) (stepOf h)
-      (plus (p .writes) (countOf h + 1))
+      (plus (p .writes) (addsOf h))
 
   module _ (i : ℕ) (p : Progress) (left : p .left ≡ 0) (pad : p .pad ≡ 0) (begun : p .begun ≡ 0) (fault : p .fault ≡ 0) where
     abbrev x : ℕ
@@ -191,13 +165,13 @@ module _ (l : List ℕ) where
           step = stepOf h;
           left = countOf h;
           pad = (2 + countOf h) % 2;
-          writes = plus (p .writes) (countOf h + 1);
+          writes = plus (p .writes) (addsOf h);
           fault = 0;
           differences = p .differences;
         }
 
     header-way : i + 2 ≤ length l → p .come + 2 ≤ 65536 → faultOf (idOf h) (maskOf h) ≡ 0
-        → Way l p i opened (i + 2) (writing (idOf h) (maskOf h) x ∷ [])
+        → Way l p i opened (i + 2) (kept (writing (idOf h) (maskOf h) x ∷ []))
     header-way a b g =
         let q = started p x in
         let c : p .come + 1 + 1 ≡ p .come + 2 = omega arith in
@@ -228,7 +202,7 @@ module _ (l : List ℕ) where
     pub command-way : i + wordsOf h ≤ length l → p .come + wordsOf h ≤ 65536
         → ((k : ℕ) → idOf h ≤ k → k ≤ lastId (idOf h) (countOf h) (stepOf h) → faultOf k (maskOf h) ≡ 0)
         → Way l p i (commanded p x h) (i + wordsOf h)
-        (writing (idOf h) (maskOf h) x ∷ runFrom l (i + 2) (countOf h) (idOf h + stepOf h) (maskOf h) (stepOf h))
+        (kept (writing (idOf h) (maskOf h) x ∷ runFrom l (i + 2) (countOf h) (idOf h + stepOf h) (maskOf h) (stepOf h)))
     command-way a b g =
         let n = (2 + countOf h) % 2 in
         let c : p .come + 2 + countOf h ≡ p .come + 2 + countOf h + 0 = omega arith in
@@ -244,7 +218,8 @@ module _ (l : List ℕ) where
         let three = pad-way n refl a b in
         let all = both-ways l p opened (ran opened (countOf h)) i (i + 2) (i + 2 + countOf h) _ _ one two in
         let end : closed n ≡ commanded p x h = rw (u, v, w, begun, fault) in
-        rw (← end, ← j, ← (append-nil (writing (idOf h) (maskOf h) x ∷ rs)))
+        let first = writing (idOf h) (maskOf h) x ∷ [] in
+        rw (← end, ← j, ← (append-nil (kept (first ++ rs))), kept-append first rs)
         (both-ways l p (closed 0) (closed n) i (i + 2 + countOf h) (i + 2 + countOf h + n) _ [] (rw (c, d) at all) three)
 
 -- a way, with what its writes leave of a state, and how many made a difference

@@ -9,20 +9,21 @@
 --   step    by how much its ids rise
 --   left    its extra parameters that are still to come
 --   pad     its padding words that are still to come
---   writes  the writes of all commands whose headers have come
+--   writes  the writes of all commands whose headers have come, but for those of mask 0
 --   fault   the number of the first fault, 0 for none; after a command at fault none is followed
 --   differences
 --           how many of the writes made so far made a difference. Words alone don't tell: `next` and `after` keep it, `onward` adds to it
 -- Any twelve numbers may come in: a progress that no call made goes on by the same rules. There a step may be any number, and a mask above
--- 15 counts by its low four bits, but isn't Fh, so that port data is refused under it; and its differences may be more than its writes.
+-- 15 counts by its low four bits, but isn't Fh, so that port data is refused under it, nor 0, so that its other writes are made; and its
+-- differences may be more than its writes.
 use mathlib.Core.Bool.{Bool, _&&_}
 use mathlib.Core.List.{List, [], _∷_, _++_}
 use Prim.Native.Nat.{ℕ, _+_, _-_, _%_}
 use lib.Dec.{eqb, ltb}
 use Rattle.numbers.specs.Pick.{pick}
 use Rattle.numbers.specs.Answer.{Answer, answered, refused}
-use Rattle.words.specs.Header.{idOf, maskOf, countOf, stepOf}
-use Rattle.words.specs.Writes.{Write, writing, faultOf}
+use Rattle.words.specs.Header.{idOf, maskOf, countOf, stepOf, addsOf}
+use Rattle.words.specs.Writes.{Write, writing, kept, faultOf}
 use Rattle.registers.specs.State.{State}
 use Rattle.registers.specs.Applied.{differences}
 use Rattle.parts.specs.declared.Progress.{Progress}
@@ -98,7 +99,7 @@ headed p h =
       step = stepOf h;
       left = countOf h;
       pad = (2 + countOf h) % 2;
-      writes = plus (p .writes) (countOf h + 1);
+      writes = plus (p .writes) (addsOf h);
       fault = firstOf (p .fault) (faultOf (idOf h) (maskOf h));
       differences = p .differences;
     }
@@ -138,9 +139,9 @@ byWord p ifPast ifExtra ifPadding ifHeader ifFirst ifPassed =
 unfoldable pub next : Progress → ℕ → Progress
 next p x = byWord p (past p) (extra p) (padding p) (headed p x) (started p x) (passed p)
 
--- a write is made unless there is a fault so far, its own included
+-- a write is made unless there is a fault so far, its own included, or its mask is 0
 abbrev pub sound : ℕ → Write → List Write
-sound fault w = pick (eqb fault 0) (w ∷ []) []
+sound fault w = pick (eqb fault 0) (kept (w ∷ [])) []
 
 -- THE WRITES THAT A WORD MAKES: an extra parameter its own, a header the first parameter's; at most one
 unfoldable pub makes : Progress → ℕ → List Write
@@ -199,11 +200,15 @@ between p = eqb (p .left) 0 && eqb (p .pad) 0 && eqb (p .begun) 0
 abbrev pub faultNumber : ℕ → ℕ
 faultNumber f = pick (eqb f 3) 3 (pick (eqb f 4) 4 5)
 
--- THE VERDICT AT THE CLOSE: 1; then 2, where the command that is followed lacks words, whatever its own writes; then the fault, at its
--- command's first word; else the number of writes
+-- what the commands so far say, were the list to end here: 2, where the command that is followed lacks words, whatever its own writes; then
+-- the fault, at its command's first word; else the number of writes
+abbrev pub judgedSoFar : Progress → Answer
+judgedSoFar p =
+    pick (between p)
+    (pick (eqb (p .fault) 0) (answered (p .writes)) (refused (faultNumber (p .fault)) (p .place)))
+    (refused 2 (p .place))
+
+-- THE VERDICT AT THE CLOSE: 1; then 15, where the words that have come aren't a multiple of 4; then what the commands say
 unfoldable pub closing : Progress → Answer
 closing p =
-    pick (ltb 65536 (p .come)) (refused 1 0)
-    (pick (between p)
-    (pick (eqb (p .fault) 0) (answered (p .writes)) (refused (faultNumber (p .fault)) (p .place)))
-    (refused 2 (p .place)))
+    pick (ltb 65536 (p .come)) (refused 1 0) (pick (eqb (p .come % 4) 0) (judgedSoFar p) (refused 15 0))

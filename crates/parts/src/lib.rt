@@ -31,7 +31,7 @@ pub struct Progress {
     // the extra parameters and the padding words that are still to come
     pub left: u32,
     pub pad: u32,
-    // the writes of all headers so far
+    // the writes of all headers so far, but for those of mask 0
     pub writes: u32,
     // the number of the first fault, 0 for none
     pub fault: u32,
@@ -49,7 +49,7 @@ fn first_fault(earlier: u32, id: u32, mask: u32) -> u32
     words::fault(id, mask)
 }
 
-// One write, in the bytes of its mask, unless there is a fault so far: 1 where it made a difference, else 0.
+// One write, in the bytes of its mask, unless there is a fault so far or its mask is 0: 1 where it made a difference, else 0.
 fn put_sound(
     cells: &mut [u32],
     fog: &mut [u32],
@@ -71,6 +71,9 @@ fn put_sound(
         ⌝ }
 {
     if fault != 0 {
+        return 0;
+    }
+    if mask == 0 {
         return 0;
     }
     let bytes = ports::spread_mask(mask);
@@ -118,7 +121,7 @@ fn take_header(
     q.step = h.step;
     q.left = h.count;
     q.pad = (2 + h.count) % 2;
-    q.writes = std::num::wrapping_add_u32(p.writes, h.count + 1);
+    q.writes = std::num::wrapping_add_u32(p.writes, commands::added(h.mask, h.count));
     q.fault = fault;
     Taken {
         progress: q,
@@ -246,8 +249,8 @@ fn put_run(
 }
 
 // The writes of a command with the header `h`: its first value is `first`, the others stand in `list` from `from` on. Tells how many of
-// them made a difference. `commands::apply_run` does the same, and is left to `reader`: a function that is called from more places than one
-// is not put in line, and reading was slower.
+// them made a difference. Allowed writes of mask 0 change nothing, so that they need no test. `commands::apply_run` does the same, and is
+// left to `reader`: a function that is called from more places than one is not put in line, and reading was slower.
 fn put_command(
     cells: &mut [u32],
     fog: &mut [u32],
@@ -364,7 +367,7 @@ fn take_commands(
         id = last;
         mask = h.mask;
         step = h.step;
-        writes = std::num::wrapping_add_u32(writes, h.count + 1);
+        writes = std::num::wrapping_add_u32(writes, commands::added(h.mask, h.count));
         i += taken;
     }
     Reached {

@@ -3,7 +3,7 @@
 use mathlib.Core.Path.{_≡_, refl}
 use mathlib.Core.Bool.{Bool, true, false, _&&_}
 use mathlib.Core.List.{List, [], _∷_}
-use Prim.Native.Nat.{ℕ, zero, suc, _+_, _-_, _*_, _≤_, _<_}
+use Prim.Native.Nat.{ℕ, zero, suc, _+_, _-_, _*_, _%_, _≤_, _<_}
 use native.Mathlib.Omega.{arith}
 use lib.Dec.{ltb, leb, eqb}
 use lib.ListN.{length}
@@ -15,14 +15,14 @@ use Rattle.numbers.proofs.Tests.{and-true}
 use Rattle.numbers.proofs.Picks.{pick-either}
 use Rattle.numbers.proofs.Room.{level-lengths}
 use Rattle.words.specs.Header.{countOf, wordsOf}
-use Rattle.words.specs.Writes.{Write}
-use Rattle.words.specs.Commands.{headerAt, whole, expand, places, commands, expansion}
-use Rattle.words.proofs.Laws.{run-length}
+use Rattle.words.specs.Writes.{Write, kept}
+use Rattle.words.specs.Commands.{headerAt, whole, expand, places, commands, expansion, legal}
+use Rattle.words.proofs.Laws.{run-length, kept-few}
 use Rattle.registers.specs.State.{State, sized}
 use Rattle.registers.specs.Applied.{difference}
 use Rattle.registers.proofs.Differences.{difference-most}
 use Rattle.registers.specs.Single.{refusalOf, writeAnswer}
-use Rattle.reader.specs.ListVerdict.{firstFault, commandFault, judge, verdict}
+use Rattle.reader.specs.ListVerdict.{firstFault, commandFault, judge, judged, verdict}
 use Rattle.reader.specs.Read.{readAnswer}
 use Rattle.reader.proofs.Accepted.{verdict-accepted}
 use Rattle.parts.specs.Progress.{fresh, after, counted, between, faultNumber, closing}
@@ -31,8 +31,8 @@ use Rattle.pieces.specs.Pieces as pieces
 use Rattle.parts.specs.declared.Progress.{Progress}
 use Rattle.pieces.specs.declared.Going.the-variants.{Come}
 use Rattle.writes.specs.Listed.{writesAnswer}
-use Rattle.runs.specs.PackedList.{writes, packed}
-use Rattle.runs.proofs.PackedList.{packed-short}
+use Rattle.runs.specs.PackedList.{writes, written}
+use Rattle.runs.proofs.Shortest.{written-short}
 use Rattle.runs.proofs.Writes.{writes-length}
 use Rattle.packer.specs.Checks.{wrong, firstWrong, checkAnswer}
 use Rattle.packer.specs.Packing.{packAnswer}
@@ -80,20 +80,22 @@ unfolding judge
 by-place l ps at n true e h more = more (ltb-true _ _ e)
 by-place l ps at n false e h more = h
 
-judged : (l : List ℕ) (k at n : ℕ) → n ≤ at → n ≤ length l → valueIn (judge l (places k l at) n) ≤ length l
+commands-uncut : (l : List ℕ) (k at n : ℕ) → n ≤ at → n ≤ length l → valueIn (judge l (places k l at) n) ≤ length l
 unfolding judge places
-judged l zero at n h g = g
-judged l (suc k) at n h g =
+commands-uncut l zero at n h g = g
+commands-uncut l (suc k) at n h g =
     let w = wordsOf (headerAt l at) in
-    let m = length (expand l at) in
-    let e : m ≡ countOf (headerAt l at) + 1 = run-length l at _ _ _ in
+    let m = length (kept (expand l at)) in
+    let e : length (expand l at) ≡ countOf (headerAt l at) + 1 = run-length l at _ _ _ in
+    let few : m ≤ countOf (headerAt l at) + 1 = omega (arith, kept-few (expand l at)) in
     by-place l (places k l (at + w)) at n (ltb at (length l)) refl g
     (λ below. by-fault l at (commandFault l at) (judge l (places k l (at + w)) (n + m)) refl (omega arith)
-    (λ inside. judged l k (at + w) (n + m) (omega arith) (omega arith)))
+    (λ inside. commands-uncut l k (at + w) (n + m) (omega arith) (omega arith)))
 
 pub verdict-uncut : (l : List ℕ) → valueIn (verdict l) ≤ length l
-unfolding verdict commands
-verdict-uncut l = judged l (length l - 0) 0 0 (omega arith) (omega arith)
+unfolding verdict judged commands
+verdict-uncut l =
+    pick-either (λ a. valueIn a ≤ length l) (legal l) (commands-uncut l (length l - 0) 0 0 (omega arith) (omega arith)) (omega arith)
 
 by-length : (l : List ℕ) (sz : Bool) (b : Bool) → leb (length l) 65536 ≡ b
     → valueIn (pick sz (pick b (verdict l) (refused 1 0)) (refused 6 0)) ≤ 65536
@@ -131,20 +133,28 @@ feed-uncut p spare l = go (sized spare)
 pub close-uncut : (p : Progress) (live spare : State) → p .place < 0x100000000 → p .writes < 0x100000000
     → valueIn (closeAnswer p live spare) < 0x100000000
 unfolding closeAnswer closing
-close-uncut p live spare h g = go (bothSized live spare) (ltb 65536 (p .come)) (between p) (eqb (p .fault) 0)
+close-uncut p live spare h g =
+    go (bothSized live spare) (ltb 65536 (p .come)) (eqb (p .come % 4) 0) (between p) (eqb (p .fault) 0)
   where
-    go : (a b c d : Bool)
+    judged-uncut : (c d : Bool)
+        → valueIn (pick c (pick d (answered (p .writes)) (refused (faultNumber (p .fault)) (p .place))) (refused 2 (p .place)))
+        < 0x100000000
+    judged-uncut true true = g
+    judged-uncut true false = h
+    judged-uncut false d = h
+
+    go : (a b e c d : Bool)
         → valueIn
         (pick a
         (pick b (refused 1 0)
-        (pick c (pick d (answered (p .writes)) (refused (faultNumber (p .fault)) (p .place))) (refused 2 (p .place))))
+        (pick e (pick c (pick d (answered (p .writes)) (refused (faultNumber (p .fault)) (p .place))) (refused 2 (p .place)))
+        (refused 15 0)))
         (refused 6 0))
         < 0x100000000
-    go true true c d = omega arith
-    go true false true true = g
-    go true false true false = h
-    go true false false d = h
-    go false b c d = omega arith
+    go true true e c d = omega arith
+    go true false true c d = judged-uncut c d
+    go true false false c d = omega arith
+    go false b e c d = omega arith
 
 -- ONE WRITE
 
@@ -212,12 +222,12 @@ unfolding checkAnswer
 check-uncut is ms vs = by-level is ms vs (level is ms vs) (leb (length is) 4096) refl refl
 
 by-check : (is ms vs : List ℕ) (room : ℕ) (a : Answer) → checkAnswer is ms vs ≡ a
-    → valueIn (andThen a (ifRoom 10 (length (packed (writes is ms vs))) room)) ≤ 65536
+    → valueIn (andThen a (ifRoom 10 (length (written (writes is ms vs))) room)) ≤ 65536
 by-check is ms vs room (answered n) e =
     let g = check-given is ms vs n e in
     let ws = writes is ms vs in
     let l = writes-length is ms vs (g .masks) (g .values) in
-    omega (arith, room-value 10 (length (packed ws)) (leb (length (packed ws)) room), packed-short ws, l, g .few)
+    omega (arith, room-value 10 (length (written ws)) (leb (length (written ws)) room), written-short ws, l, g .few)
 by-check is ms vs room (refused r p) e = let h : valueIn (checkAnswer is ms vs) ≤ 65536 = check-uncut is ms vs in rw e at h
 
 pub pack-uncut : (is ms vs : List ℕ) (room : ℕ) → valueIn (packAnswer is ms vs room) ≤ 65536

@@ -8,10 +8,10 @@ use native.Mathlib.Omega.{arith}
 use lib.Dec.{eqb}
 use lib.ListN.{length, getD}
 use borrow.Author.Tests.{eq-eqb}
-use Rattle.words.specs.Header.{idOf, maskOf, countOf, stepOf, wordsOf}
-use Rattle.words.specs.Writes.{Write, writing, faultOf}
+use Rattle.words.specs.Header.{idOf, maskOf, countOf, stepOf, wordsOf, addsOf}
+use Rattle.words.specs.Writes.{Write, writing, kept, faultOf}
 use Rattle.words.specs.Commands.{headerAt, expand, commands, join, expansion}
-use Rattle.words.proofs.Laws.{commands-step, join-more}
+use Rattle.words.proofs.Laws.{adds-most, commands-step, join-more}
 use Rattle.reader.specs.ListVerdict.{firstFault}
 use Rattle.commands.proofs.Runs.{param-later}
 use Rattle.parts.specs.Progress.{plus, firstOf, extra, padding, headed, started, passed, next, sound, makes}
@@ -61,14 +61,14 @@ module _ (l : List ℕ) where
         let h = headerAt l a in
         let e : x ≡ h = rw (s .at) in
         let q = headed p x in
-        let k = countOf x in
         let vs = sound (q .fault) (writing (idOf x) (maskOf x) (p .first)) in
-        let d : plus (p .writes) (k + 1) ≡ p .writes + (k + 1) = omega (arith, s .few, s .at) in
-        let n : p .writes + (countOf h + 1) - (countOf h + 1) ≡ p .writes = omega arith in
+        let k : addsOf x ≤ countOf x + 1 = adds-most x in
+        let d : plus (p .writes) (addsOf x) ≡ p .writes + addsOf x = omega (arith, s .few, s .at) in
+        let n : p .writes + addsOf h - addsOf h ≡ p .writes = omega arith in
         let o : countOf h + 1 - countOf h ≡ 0 + 1 = omega arith in
         let m : countOf h + 1 - 1 ≡ countOf h = omega arith in
         let none : firstFault (expand l a) ≡ firstOf (p .fault) (firstFault (expand l a)) = rw (eq-eqb (p .fault) 0 (s .fault)) in
-        let w : ws ++ (expand l a ++ join l (commands l (a + wordsOf h))) ≡ expansion l =
+        let w : ws ++ kept (expand l a ++ join l (commands l (a + wordsOf h))) ≡ expansion l =
         rw (commands-step l a (omega (arith, s .at)), join-more l a (commands l (a + wordsOf h))) at (s .writes) in
         by-takes (j + 1) p q x ws vs
         (takes-header p x (omega arith) (omega (arith, s .left)) (omega (arith, s .pad)) (omega (arith, s .begun)))
@@ -85,7 +85,7 @@ module _ (l : List ℕ) where
                 small = omega arith;
                 step = rw e;
                 mask = rw e;
-                few = rw d (rw e (omega (arith, s .few)));
+                few = rw d (rw e (omega (arith, s .few, adds-most h)));
                 some = rw d (rw e (omega arith));
                 answer = rw d (rw (e, n) (s .answer));
                 faults =

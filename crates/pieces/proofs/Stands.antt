@@ -1,4 +1,4 @@
--- Where a reading stands after the first j words of a list, against the list's verdict and its expansion. Assumes nothing.
+-- Where a reading stands after the first j words of a list, against what its commands say and its expansion. Assumes nothing.
 use mathlib.Core.Path.{_≡_, refl, sym, _∙_}
 use mathlib.Core.Bool.{Bool, true, false}
 use mathlib.Core.List.{List, [], _∷_, _++_, append-assoc}
@@ -9,11 +9,11 @@ use lib.Dec.{eqb}
 use lib.ListN.{length, getD}
 use borrow.Author.Tests.{eq-eqb, eqb-true, eqb-false}
 use Rattle.numbers.specs.Answer.{refused}
-use Rattle.words.specs.Header.{maskOf, countOf, stepOf, wordsOf}
-use Rattle.words.specs.Writes.{Write, writing, faultOf}
+use Rattle.words.specs.Header.{maskOf, countOf, stepOf, wordsOf, addsOf}
+use Rattle.words.specs.Writes.{Write, writing, kept, faultOf}
 use Rattle.words.specs.Commands.{headerAt, paramAt, run, expand, commands, join, expansion}
-use Rattle.words.proofs.Laws.{run-done, run-next}
-use Rattle.reader.specs.ListVerdict.{firstFault, judge, verdict}
+use Rattle.words.proofs.Laws.{run-done, run-next, kept-append}
+use Rattle.reader.specs.ListVerdict.{firstFault, judge, judged}
 use Rattle.reader.proofs.Judging.{run-none, run-good, run-bad, judge-fault, judge-pass}
 use Rattle.parts.specs.Progress.{firstOf, sound, faultNumber}
 use Rattle.parts.specs.declared.Progress.{Progress}
@@ -27,8 +27,8 @@ module _ (l : List ℕ) where
     pub begun : p .begun ≡ 0
     pub fault : p .fault ≡ 0
     pub few : p .writes ≤ j
-    pub answer : judge l (commands l j) (p .writes) ≡ verdict l
-    pub writes : ws ++ join l (commands l j) ≡ expansion l
+    pub answer : judge l (commands l j) (p .writes) ≡ judged l
+    pub writes : ws ++ kept (join l (commands l j)) ≡ expansion l
 
   -- a command's first parameter has come
   pub record Begun (j : ℕ) (p : Progress) (ws : List Write) : Type 0 where
@@ -39,8 +39,8 @@ module _ (l : List ℕ) where
     pub few : p .writes ≤ p .place
     pub at : j ≡ p .place + 1
     pub first : p .first ≡ getD l (p .place) 0
-    pub answer : judge l (commands l (p .place)) (p .writes) ≡ verdict l
-    pub writes : ws ++ join l (commands l (p .place)) ≡ expansion l
+    pub answer : judge l (commands l (p .place)) (p .writes) ≡ judged l
+    pub writes : ws ++ kept (join l (commands l (p .place))) ≡ expansion l
 
   -- a command's header has come: what is left of it
   pub record Inside (j : ℕ) (p : Progress) (ws : List Write) : Type 0 where
@@ -53,12 +53,12 @@ module _ (l : List ℕ) where
     pub step : p .step ≡ stepOf (headerAt l (p .place))
     pub mask : p .mask ≡ maskOf (headerAt l (p .place))
     pub few : p .writes ≤ p .place + (countOf (headerAt l (p .place)) + 1)
-    pub some : countOf (headerAt l (p .place)) + 1 ≤ p .writes
-    pub answer : judge l (commands l (p .place)) (p .writes - (countOf (headerAt l (p .place)) + 1)) ≡ verdict l
+    pub some : addsOf (headerAt l (p .place)) ≤ p .writes
+    pub answer : judge l (commands l (p .place)) (p .writes - addsOf (headerAt l (p .place))) ≡ judged l
     pub faults : firstFault (expand l (p .place))
         ≡ firstOf (p .fault) (firstFault (run l (p .place) (p .left) (countOf (headerAt l (p .place)) + 1 - p .left) (p .id + p .step)))
     pub writes : p .fault ≡ 0
-        → ws ++ (run l (p .place) (p .left) (countOf (headerAt l (p .place)) + 1 - p .left) (p .id + p .step)
+        → ws ++ kept (run l (p .place) (p .left) (countOf (headerAt l (p .place)) + 1 - p .left) (p .id + p .step)
         ++ join l (commands l (p .place + wordsOf (headerAt l (p .place))))) ≡ expansion l
 
   -- a command at fault has come whole
@@ -67,7 +67,7 @@ module _ (l : List ℕ) where
     pub pad : p .pad ≡ 0
     pub begun : p .begun ≡ 0
     pub fault : p .fault ≡ 0 → ⊥
-    pub answer : refused (faultNumber (p .fault)) (p .place) ≡ verdict l
+    pub answer : refused (faultNumber (p .fault)) (p .place) ≡ judged l
 
   pub data Stands (j : ℕ) (p : Progress) (ws : List Write) : Type 0 where
     at-between : Between j p ws → Stands j p ws
@@ -89,16 +89,17 @@ module _ (l : List ℕ) where
   fault-next false c a n k i f t u h = rw (t, t)
 
   pub writes-next : (a n k i f v : ℕ) (ws js es : List Write) → 0 < n → v ≡ paramAt l a k
-      → (f ≡ 0 → ws ++ (run l a n k i ++ js) ≡ es)
+      → (f ≡ 0 → ws ++ kept (run l a n k i ++ js) ≡ es)
       → firstOf f (faultOf i (maskOf (headerAt l a))) ≡ 0
       → (ws ++ sound (firstOf f (faultOf i (maskOf (headerAt l a)))) (writing i (maskOf (headerAt l a)) v))
-      ++ (run l a (n - 1) (k + 1) (i + stepOf (headerAt l a)) ++ js) ≡ es
+      ++ kept (run l a (n - 1) (k + 1) (i + stepOf (headerAt l a)) ++ js) ≡ es
   writes-next a n k i f v ws js es h e w z =
       let m = maskOf (headerAt l a) in
       let rest = run l a (n - 1) (k + 1) (i + stepOf (headerAt l a)) in
       let t = eq-eqb (firstOf f (faultOf i m)) 0 z in
       let q = first-zero (eqb f 0) f (faultOf i m) refl z in
-      rw (t, append-assoc ws (writing i m v ∷ []) (rest ++ js), e) (rw (run-next l a n k i h) at (w q))
+      let one = writing i m v ∷ [] in
+      rw (t, append-assoc ws (kept one) (kept (rest ++ js)), ← (kept-append one (rest ++ js)), e) (rw (run-next l a n k i h) at (w q))
 
   -- WHERE A HEADER OR A LATER WORD OF A COMMAND LEADS
   module _ (j : ℕ) (p : Progress) (ws : List Write) (low : j ≤ length l) (s : Inside j p ws) where
@@ -116,7 +117,7 @@ module _ (l : List ℕ) where
     settle-by true t z =
         let e : j ≡ a + wordsOf h = omega (arith, s .at) in
         let f = eqb-true (p .fault) 0 t in
-        let n : p .writes - (countOf h + 1) + (countOf h + 1) ≡ p .writes = omega (arith, s .some) in
+        let n : p .writes - addsOf h + addsOf h ≡ p .writes = omega (arith, s .some) in
         let none : firstFault (expand l a) ≡ 0 = whole-fault z ∙ rw t in
         let w = s .writes f in
         at-between
@@ -126,7 +127,7 @@ module _ (l : List ℕ) where
           begun = s .begun;
           fault = f;
           few = omega (arith, s .few);
-          answer = rw e (rw n at (sym (judge-pass l a (p .writes - (countOf h + 1)) (omega arith) (omega arith) none)) ∙ s .answer);
+          answer = rw e (rw n at (sym (judge-pass l a (p .writes - addsOf h) (omega arith) (omega arith) none)) ∙ s .answer);
           writes = rw e (rw (run-done l a (p .left) (countOf h + 1 - p .left) (p .id + p .step) (omega arith)) at w);
         })
     settle-by false t z =
@@ -141,7 +142,7 @@ module _ (l : List ℕ) where
           fault = f;
           answer =
               rw (number-known (expand l a) (p .fault) bad f)
-              (sym (judge-fault l a (p .writes - (countOf h + 1)) (p .fault) (omega arith) (omega arith) bad f) ∙ s .answer);
+              (sym (judge-fault l a (p .writes - addsOf h) (p .fault) (omega arith) (omega arith) bad f) ∙ s .answer);
         })
 
     settle-dec : Dec (0 < p .left + p .pad) → Stands j p ws

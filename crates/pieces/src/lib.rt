@@ -4,7 +4,7 @@ ghost use mathlib.Core.Path.{_≡_};
 ghost use Rattle.numbers.specs.Answer.{neither};
 ghost use Rattle.registers.specs.State.{st};
 ghost use Rattle.reader.specs.Read.{told, toldBoth};
-ghost use Rattle.parts.specs.Progress.{fresh, counted, closing, faultNumber};
+ghost use Rattle.parts.specs.Progress.{fresh, counted, judgedSoFar, closing, faultNumber};
 ghost use Rattle.pieces.specs.Pieces as going;
 ghost use Rattle.pieces.specs.Pieces.{opening, openAnswer, openedSpare, feeding, feedAnswer, fedSpare};
 ghost use Rattle.pieces.specs.Pieces.{closeAnswers, closeProgress, closedLive, closedSpare};
@@ -134,16 +134,10 @@ fn fault_number(fault: u32) -> u32
     words::PORT_MASK
 }
 
-// The verdict that a progress leads to, were the list to end here.
-fn verdict_so_far(p: Progress) -> ListVerdict
-    ensures { λ r. ⌜ told r ≡ closing p ⌝ }
+// What the commands so far say, were the list to end here.
+fn judged_so_far(p: Progress) -> ListVerdict
+    ensures { λ r. ⌜ told r ≡ judgedSoFar p ⌝ }
 {
-    if 65536 < p.come {
-        return ListVerdict::Refused(Refusal {
-            number: words::LIST_TOO_LONG,
-            place: 0,
-        });
-    }
     if (p.left == 0) & (p.pad == 0) & (p.begun == 0) {
         if p.fault != 0 {
             return ListVerdict::Refused(Refusal {
@@ -159,7 +153,26 @@ fn verdict_so_far(p: Progress) -> ListVerdict
     })
 }
 
-// What a close tells: the number of writes and how many of them made a difference, or a refusal; and the progress to go on from, which is
+// The verdict that a progress leads to: 1, then 15, then what the commands say.
+fn verdict_so_far(p: Progress) -> ListVerdict
+    ensures { λ r. ⌜ told r ≡ closing p ⌝ }
+{
+    if 65536 < p.come {
+        return ListVerdict::Refused(Refusal {
+            number: words::LIST_TOO_LONG,
+            place: 0,
+        });
+    }
+    if p.come % 4 != 0 {
+        return ListVerdict::Refused(Refusal {
+            number: words::ILLEGAL_LENGTH,
+            place: 0,
+        });
+    }
+    judged_so_far(p)
+}
+
+// What a close tells: the number of writes in the expansion and how many of them made a difference, or a refusal; and the progress to go on from, which is
 // fresh after any verdict but 6.
 pub struct Closed {
     pub verdict: Reading,

@@ -1,4 +1,4 @@
--- The verdict, command by command and write by write, by the tests that code makes. Assumes nothing.
+-- The verdict on commands, one by one and write by write, by the tests that code makes. Assumes nothing.
 use mathlib.Core.Path.{_≡_, refl, sym, _∙_}
 use mathlib.Core.Bool.{Bool, true, false}
 use mathlib.Core.List.{List, [], _∷_}
@@ -6,17 +6,17 @@ use Prim.Native.Nat.{ℕ, zero, suc, _+_, _-_, _≤_, _<_}
 use native.Mathlib.Omega.{arith}
 use lib.Dec.{eqb}
 use lib.ListN.{length}
-use borrow.Author.Tests.{ne-eqb, le-leb, lt-leb, eqb-true}
+use borrow.Author.Tests.{ne-eqb, le-leb, lt-leb, eqb-true, eqb-false}
 use Rattle.numbers.specs.Pick.{pick}
 use Rattle.numbers.specs.Answer.{answered, refused}
 use Rattle.numbers.proofs.Answers.{unless-refuses}
-use Rattle.words.specs.Header.{idOf, maskOf, countOf, stepOf, wordsOf}
-use Rattle.words.specs.Writes.{Write, faultOf}
+use Rattle.words.specs.Header.{idOf, maskOf, countOf, stepOf, wordsOf, addsOf}
+use Rattle.words.specs.Writes.{Write, kept, faultOf}
 use Rattle.words.specs.Commands.{headerAt, run, expand, commands}
-use Rattle.words.proofs.Laws.{commands-end, commands-step, run-done, run-next, run-length}
+use Rattle.words.proofs.Laws.{commands-end, commands-step, run-done, run-next, run-length, run-dropped, run-kept}
 use Rattle.commands.specs.Clear.{lastId, clear}
 use Rattle.commands.proofs.Clearing.{clear-fault}
-use Rattle.reader.specs.ListVerdict.{firstFault, judge, verdict}
+use Rattle.reader.specs.ListVerdict.{firstFault, judge}
 use Rattle.reader.proofs.Accepted.{judge-none, judge-more}
 
 -- A RUN OF WRITES
@@ -104,14 +104,16 @@ module _ (l : List ℕ) (at : ℕ) where
       rw (commands-step l at i)
       (judge-more l at (commands l (at + wordsOf h)) n ∙ rw (le-leb (at + wordsOf h) (length l) s, e) (unless-refuses f at _ z))
 
-  -- else it goes on after the command's words, with its writes counted
+  -- what it adds to the expansion is counted
+  added-kept : (b : Bool) → eqb (maskOf h) 0 ≡ b → length (kept (expand l at)) ≡ pick b 0 (countOf h + 1)
+  added-kept true t = rw (run-dropped l at (countOf h + 1) 0 (idOf h) (eqb-true _ _ t))
+  added-kept false t =
+      rw (run-kept l at (countOf h + 1) 0 (idOf h) (eqb-false _ _ t)) (run-length l at (countOf h + 1) 0 (idOf h))
+
+  -- else it goes on after the command's words, with its writes counted, unless they have mask 0
   pub judge-pass : (n : ℕ) → at < length l → at + wordsOf h ≤ length l → firstFault (expand l at) ≡ 0
-      → judge l (commands l at) n ≡ judge l (commands l (at + wordsOf h)) (n + (countOf h + 1))
+      → judge l (commands l at) n ≡ judge l (commands l (at + wordsOf h)) (n + addsOf h)
   judge-pass n i s e =
       rw (commands-step l at i)
       (judge-more l at (commands l (at + wordsOf h)) n
-      ∙ rw (le-leb (at + wordsOf h) (length l) s, e, run-length l at (countOf h + 1) 0 (idOf h)))
-
-pub verdict-of : (l : List ℕ) → verdict l ≡ judge l (commands l 0) 0
-unfolding verdict
-verdict-of l = refl
+      ∙ rw (le-leb (at + wordsOf h) (length l) s, e, added-kept (eqb (maskOf h) 0) refl))

@@ -1,5 +1,5 @@
--- What reading a list into a state answers, and the state that it leaves: 6, then 1, then the verdict. Besides the number of writes an
--- accepted list gives how many of them made a difference.
+-- What reading a list into a state answers, and the state that it leaves: 6, then 1, then the verdict, 15 first. Besides the number of
+-- writes in its expansion an accepted list gives how many of them made a difference.
 use mathlib.Core.List.{List}
 use Prim.Native.Nat.{ℕ}
 use lib.Dec.{leb}
@@ -35,8 +35,8 @@ readAnswers s l = besides (readAnswer s l) (differences s (expansion l))
 
 -- the one state where a call answered, the other where it refused
 abbrev pub ifAnswered : Answer → State → State → State
-ifAnswered (answered n) changed kept = changed
-ifAnswered (refused r p) changed kept = kept
+ifAnswered (answered n) changed same = changed
+ifAnswered (refused r p) changed same = same
 
 -- an accepted list leaves what its expansion leaves, one masked write after another; a refused one changes nothing
 unfoldable pub readState : State → List ℕ → State

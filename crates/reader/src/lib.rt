@@ -5,22 +5,22 @@ ghost use mathlib.Core.Bool.{true};
 ghost use Prim.Native.Nat.{_+_, _<_, _≤_};
 ghost use lib.ListN.{length};
 ghost use Rattle.numbers.specs.Pick.{pick};
-ghost use Rattle.words.specs.Commands.{expansion, wellFormed};
+ghost use Rattle.words.specs.Commands.{allWrites, expansion, wellFormed};
 ghost use Rattle.registers.specs.State.{st, Lengths};
 ghost use Rattle.registers.specs.Applied.{applyAll, differences};
 ghost use Rattle.commands.specs.Clear.{lastId, clear};
-ghost use Rattle.reader.specs.ListVerdict.{verdict};
+ghost use Rattle.reader.specs.ListVerdict.{judged, verdict, allAllowed};
 ghost use Rattle.reader.specs.Read.{told, toldBoth, readAnswers, readState};
 use words::Head;
 use words::Refusal;
 
-// On a list alone: the number of its writes, or the refusal.
+// On a list alone: the number of writes in its expansion, or the refusal.
 pub enum ListVerdict {
     Accepted(usize),
     Refused(Refusal),
 }
 
-// Of a list that was read: the number of its writes, and how many of them made a difference.
+// Of a list that was read: the number of writes in its expansion, and how many of them made a difference.
 pub struct Counts {
     pub writes: usize,
     pub differences: u32,
@@ -43,9 +43,9 @@ fn deciding(id: u32, mask: u32, count: u32, step: u32) -> u32
     }
 }
 
-// The verdict on a list of any length: commands in order, each for its words and then for its writes.
-pub fn judge_list(list: &[u32]) -> ListVerdict
-    ensures { λ r. ⌜ told r ≡ verdict (now (list .entry)) ⌝ }
+// The verdict on a list's commands, whatever its length: in order, each for its words and then for its writes.
+fn judge_commands(list: &[u32]) -> ListVerdict
+    ensures { λ r. ⌜ told r ≡ judged (now (list .entry)) ⌝ }
 {
     let mut at: usize = 0;
     let mut n: usize = 0;
@@ -70,14 +70,29 @@ pub fn judge_list(list: &[u32]) -> ListVerdict
             id += h.step;
             left -= 1;
         }
-        n += (h.count + 1) as usize;
+        n += commands::added(h.mask, h.count) as usize;
         at += words::words_taken(h);
     }
 }
 
-// A well-formed list's expansion, one masked write after another: how many writes made a difference.
+// The verdict on a list: 15 where its words aren't a multiple of 4, else the one on its commands.
+pub fn judge_list(list: &[u32]) -> ListVerdict
+    ensures { λ r. ⌜ told r ≡ verdict (now (list .entry)) ⌝ }
+{
+    if list.len() % 4 != 0 {
+        return ListVerdict::Refused(Refusal {
+            number: words::ILLEGAL_LENGTH,
+            place: 0,
+        });
+    }
+    judge_commands(list)
+}
+
+// A list's expansion, one masked write after another: how many writes made a difference. The list is well formed and its writes are allowed,
+// so that those of mask 0 change nothing, and are applied like any others: a test for them would cost more.
 fn apply_list(cells: &mut [u32], fog: &mut [u32], light: &mut [u32], list: &[u32]) -> u32
-    requires { ⌜ Lengths (now cells) (now fog) (now light) × (wellFormed (now list) ≡ true) × (length (now list) ≤ 65536) ⌝ }
+    requires { ⌜ Lengths (now cells) (now fog) (now light) × (length (now list) ≤ 65536) ⌝ }
+    requires { ⌜ (wellFormed (now list) ≡ true) × (allAllowed (allWrites (now list)) ≡ true) ⌝ }
     ensures count { λ r. ⌜
         r ≡ differences (st (now (cells .entry)) (now (fog .entry)) (now (light .entry))) (expansion (now (list .entry)))
         ⌝ }
@@ -99,8 +114,8 @@ fn apply_list(cells: &mut [u32], fog: &mut [u32], light: &mut [u32], list: &[u32
     n
 }
 
-// A list read into a state: the number of its writes and how many of them made a difference, or a refusal, 6 before 1 before the verdict's;
-// a refused list changes nothing.
+// A list read into a state: the number of writes in its expansion and how many of them made a difference, or a refusal, 6 before 1 before
+// the verdict's, 15 first; a refused list changes nothing.
 pub fn read(cells: &mut [u32], fog: &mut [u32], light: &mut [u32], list: &[u32]) -> Reading
     ensures answer { λ r. ⌜
         toldBoth r ≡ readAnswers (st (now (cells .entry)) (now (fog .entry)) (now (light .entry))) (now (list .entry))

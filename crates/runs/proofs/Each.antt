@@ -9,13 +9,14 @@ use lib.ListN.{drop}
 use Rattle.numbers.proofs.Tests.{and-true}
 use Rattle.numbers.proofs.Picks.{pick-either}
 use Rattle.words.specs.Header.{idOf, maskOf, countOf, stepOf}
-use Rattle.words.specs.Writes.{Write, writing, allowed}
-use Rattle.words.specs.Commands.{headerAt, paramAt, run, expand, commands, join, expansion}
-use Rattle.words.proofs.Laws.{expansion-of, join-none, join-more}
+use Rattle.words.specs.Writes.{Write, writing, kept, allowed}
+use Rattle.words.specs.Commands.{headerAt, paramAt, run, expand, commands, join, allWrites, expansion}
+use Rattle.words.proofs.Laws.{all-of, join-none, join-more}
 use Rattle.reader.specs.ListVerdict.{allAllowed}
 use Rattle.reader.proofs.Accepted.{verdict-accepted}
 use Rattle.runs.specs.PackedList.{Packable}
-use Rattle.runs.specs.Shortest.{Says, Words32}
+use Rattle.runs.specs.Shortest.{Says, SaysUnfilled, Words32}
+use Rattle.runs.proofs.Kept.{Kept, kept-is}
 
 abbrev pub Each : (Write → Type 0) → List Write → Type 0
 Each P [] = Unit {0}
@@ -44,8 +45,8 @@ module _ (P : Write → Type 0) where
         let h = headerAt l p in
         rw (join-more l p ps) (each-append (expand l p) (join l ps) (run-each p (countOf h + 1) 0 (idOf h)) (join-each ps))
 
-    pub list-each : Each P (expansion l)
-    list-each = rw (expansion-of l) (join-each (commands l 0))
+    list-each : Each P (allWrites l)
+    list-each = rw (all-of l) (join-each (commands l 0))
 
 -- A LIST SAYS NO OTHER RUNS than those that can be packed: it has no mask above 15, and where it is accepted every write is allowed
 packable-of : (ws : List Write) → allAllowed ws ≡ true → Each (λ w. w .mask ≤ 15) ws → Packable ws
@@ -54,15 +55,27 @@ packable-of [] a m = tt
 packable-of (w ∷ ws) a m =
     let b = and-true (allowed (w .id) (w .mask)) (allAllowed ws) a in (m .0, b .0, packable-of ws (b .1) (m .1))
 
-pub says-packable : (ws : List Write) (l : List ℕ) → Says ws l → Packable ws
-says-packable ws l s =
-    let a = verdict-accepted l _ (s .accepted) .1 in
-    let m = list-each (λ w. w .mask ≤ 15) l (λ at k i. omega arith) in
-    packable-of ws (rw (s .writes) at a) (rw (s .writes) at m)
+pub list-packable : (l : List ℕ) → allAllowed (allWrites l) ≡ true → Packable (allWrites l)
+list-packable l a = packable-of (allWrites l) a (list-each (λ w. w .mask ≤ 15) l (λ at k i. omega arith))
 
--- the values of a list of 32-bit words are 32-bit words
-pub says-values : (ws : List Write) (l : List ℕ) → Words32 l → Says ws l → Each (λ w. w .value < 0x100000000) ws
-says-values ws l h s =
+module _ (ws : List Write) (l : List ℕ) (s : Says ws l) where
+  is-kept : kept (allWrites l) ≡ ws
+  unfolding expansion
+  is-kept = s .writes
+
+  all : Kept (allWrites l) ws
+  all = rw is-kept at (kept-is (allWrites l))
+
+  pub says-packable : Packable ws
+  says-packable = all .packable (list-packable l (verdict-accepted l _ (s .accepted) .1))
+
+  -- nor a run with writes of mask 0
+  pub says-kept : kept ws ≡ ws
+  says-kept = all .live
+
+-- the values of a list before filling, of 32-bit words, are 32-bit words
+pub unfilled-values : (ws : List Write) (l : List ℕ) → Words32 l → SaysUnfilled ws l → Each (λ w. w .value < 0x100000000) ws
+unfilled-values ws l h s =
     let v = list-each (λ w. w .value < 0x100000000) l
     (λ at k i. pick-either (λ x. x < 0x100000000) (eqb k 0) (h at) (h (at + 1 + k))) in
     rw (s .writes) at v

@@ -2,7 +2,7 @@
 use mathlib.Core.Path.{_≡_, refl, sym, ap, _∙_}
 use mathlib.Core.Bool.{Bool, true, false, _&&_}
 use mathlib.Core.List.{List, _∷_, _++_, append-assoc}
-use Prim.Native.Nat.{ℕ, zero, suc, _+_, _≤_, _<_}
+use Prim.Native.Nat.{ℕ, zero, suc, _+_, _%_, _≤_, _<_}
 use native.Mathlib.Omega.{arith}
 use lib.Dec.{leb}
 use lib.ListN.{length, getD, length-append, List·getD-append}
@@ -11,11 +11,11 @@ use borrow.Author.Tests.{leb-true, leb-false, le-leb, lt-leb}
 use Rattle.numbers.specs.Answer.{answered}
 use Rattle.numbers.proofs.Tests.{and-true}
 use Rattle.words.specs.Header.{idOf, maskOf, countOf, stepOf, wordsOf}
-use Rattle.words.specs.Writes.{Write, writing}
-use Rattle.words.specs.Commands.{headerAt, paramAt, whole, run, expand, commands, join, expansion, full, wellFormed}
-use Rattle.words.proofs.Laws.{commands-end, commands-step, expansion-of, join-none, join-more, formed-of, full-none, full-more}
+use Rattle.words.specs.Writes.{Write, writing, kept}
+use Rattle.words.specs.Commands.{headerAt, paramAt, whole, run, expand, commands, join, allWrites, expansion, full, wellFormed}
+use Rattle.words.proofs.Laws.{commands-end, commands-step, kept-append, all-of, join-none, join-more, formed-of, full-none, full-more}
 use Rattle.reader.specs.ListVerdict.{allAllowed}
-use Rattle.reader.proofs.Accepted.{allowed-append, verdict-accepted, verdict-accepts}
+use Rattle.reader.proofs.Accepted.{allowed-append, legal-judged, verdict-accepted, verdict-accepts}
 use Rattle.runs.specs.Shortest.{Says}
 use Rattle.runs.proofs.Places.{by-places}
 
@@ -143,24 +143,30 @@ module _ (l k : List ℕ) where
     at-end : length l + 0 ≡ length l
     at-end = omega arith
 
+    pub joined-writes : allWrites both ≡ allWrites l ++ allWrites k
+    joined-writes =
+        all-of both ∙ start .writes
+        ∙ rw (all-of l, all-of k) (ap (λ (x : List Write). join l (commands l 0) ++ x) (rw at-end at (rest .writes)))
+
     pub joined-expansion : expansion both ≡ expansion l ++ expansion k
-    joined-expansion =
-        expansion-of both ∙ start .writes
-        ∙ rw (expansion-of l, expansion-of k) (ap (λ (x : List Write). join l (commands l 0) ++ x) (rw at-end at (rest .writes)))
+    unfolding expansion
+    joined-expansion = ap kept joined-writes ∙ kept-append (allWrites l) (allWrites k)
 
     pub joined-formed : wellFormed both ≡ wellFormed k
     joined-formed = formed-of both ∙ start .form ∙ (rw at-end at (rest .form)) ∙ sym (formed-of k)
 
--- LISTS JOINED SAY THE RUNS JOINED
+-- LISTS JOINED SAY THE RUNS JOINED: of two legal lengths the sum is legal too
 pub joined-says : (a b : List Write) (l k : List ℕ) → Says a l → Says b k → Says (a ++ b) (l ++ k)
 joined-says a b l k s t =
     let u = verdict-accepted l (length a) (s .accepted) in
     let v = verdict-accepted k (length b) (t .accepted) in
+    let legal : length (l ++ k) % 4 ≡ 0 =
+    omega (arith, length-append l k, legal-judged l _ (s .accepted) .0, legal-judged k _ (t .accepted) .0) in
     let x : expansion (l ++ k) ≡ a ++ b = joined-expansion l k (u .0) ∙ rw (s .writes, t .writes) in
-    let p : allAllowed a ≡ true = rw (s .writes) at (u .1) in
-    let q : allAllowed b ≡ true = rw (t .writes) at (v .1) in
-    let y : allAllowed (a ++ b) ≡ true = allowed-append a b ∙ rw (p, q) in
+    let y : allAllowed (allWrites (l ++ k)) ≡ true =
+    rw (joined-writes l k (u .0), allowed-append (allWrites l) (allWrites k), u .1) (v .1) in
     record {
-      accepted = verdict-accepts (l ++ k) (joined-formed l k (u .0) ∙ v .0) (rw x y) ∙ ap (λ (w : List Write). answered (length w)) x;
+      accepted =
+          verdict-accepts (l ++ k) legal (joined-formed l k (u .0) ∙ v .0) y ∙ ap (λ (w : List Write). answered (length w)) x;
       writes = x;
     }

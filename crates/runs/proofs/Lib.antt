@@ -4,10 +4,12 @@ pub mod Lists
 pub mod Command
 pub mod PackedList
 pub mod RoundTrip
+pub mod Kept
+pub mod Filled
+pub mod Joined
 pub mod Shortest
 pub mod Only
 pub mod Writes
 pub mod Each
 pub mod Words32
 pub mod Seams
-pub mod Joined

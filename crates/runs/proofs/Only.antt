@@ -1,21 +1,21 @@
--- The rule names one list: two shortest lists of a run, of 32-bit words, are equal. Assumes nothing.
+-- The rule names one list: two shortest lists of a run, of 32-bit words, are equal; so are the lists before filling. Assumes nothing.
 use mathlib.Core.Path.{_≡_, sym, ap, _∙_}
 use mathlib.Core.Bool.{true}
 use mathlib.Core.List.{List, _∷_, _++_}
 use Prim.Native.Nat.{ℕ, zero, suc, _+_, _*_, _-_, _/_, _%_, _≤_, _<_}
 use native.Mathlib.Decide.{decLt, decLe}
 use native.Mathlib.Omega.{arith}
-use lib.ListN.{length, getD, take, drop, List·getD-eq-default}
+use lib.ListN.{length, getD, take, drop, List·getD-eq-default, List·getD-append}
 use lib.Seq.{take-at, drop-at, ext-getD}
 use borrow.Author.Tests.{ne-eqb}
 use Rattle.numbers.proofs.Tests.{and-true}
 use Rattle.words.specs.Header.{idOf, maskOf, countOf, stepOf, wordsOf}
 use Rattle.words.specs.Writes.{Write, writing}
 use Rattle.words.specs.Commands.{headerAt, paramAt, whole, run, expand, commands, join, full}
-use Rattle.words.proofs.Laws.{commands-step, run-length, expansion-of, join-more, formed-of, full-more}
-use Rattle.reader.proofs.Accepted.{verdict-accepted}
+use Rattle.words.proofs.Laws.{commands-step, run-length, all-of, join-more, formed-of, full-more}
 use Rattle.cuts.proofs.Most.{most-once}
-use Rattle.runs.specs.Shortest.{carried, sizesOf, Tidy, AllTidy, Shortest, Words32}
+use Rattle.runs.specs.PackedList.{filling, filled}
+use Rattle.runs.specs.Shortest.{carried, sizesOf, Tidy, AllTidy, Rule, Shortest, Words32}
 use Rattle.runs.proofs.Places.{by-places}
 
 -- a header with no unused bits is its parts
@@ -169,20 +169,36 @@ module _ (l k : List ℕ) (long : length l ≡ length k) (p : Words32 l) (q : Wo
           rw z (same-word l k at (p (at + 1)) (q (at + 1)) count this (B .tidy .0) (B .tidy′ .0) (x - at) (omega arith))
       go (no u) = rest (rw over at C) x (omega arith)
 
--- THE RULE NAMES ONE LIST
-pub shortest-only : (ws : List Write) (l k : List ℕ) → Words32 l → Words32 k → Shortest ws l → Shortest ws k → l ≡ k
-shortest-only ws l k p q s u =
+-- DOCUMENT 01'S RULE NAMES ONE LIST before filling
+pub rule-only : (ws : List Write) (l k : List ℕ) → Words32 l → Words32 k → Rule ws l → Rule ws k → l ≡ k
+rule-only ws l k p q s u =
     let a = s .least k (u .says) in
     let b = u .least l (s .says) in
     let long : length l ≡ length k = omega arith in
     let m = most-once (sizesOf l) (sizesOf k) (s .most k (u .says) b) (u .most l (s .says) a) in
     let start : Alike l k long p q (commands l 0) (commands k 0) =
     record {
-      form = sym (formed-of l) ∙ verdict-accepted l (length ws) (s .says .accepted) .0;
-      form′ = sym (formed-of k) ∙ verdict-accepted k (length ws) (u .says .accepted) .0;
+      form = sym (formed-of l) ∙ s .says .formed;
+      form′ = sym (formed-of k) ∙ u .says .formed;
       sizes = m;
-      writes = sym (expansion-of l) ∙ s .says .writes ∙ sym (u .says .writes) ∙ expansion-of k;
+      writes = sym (all-of l) ∙ s .says .writes ∙ sym (u .says .writes) ∙ all-of k;
       tidy = s .tidy;
       tidy′ = u .tidy;
     } in
     ext-getD 0 l k long (λ i h. by-places l (From l k long p q) (end l k long p q) (step l k long p q) 0 start i (omega arith))
+
+-- the words of a list before filling are of 32 bits where those of the list are
+pub words-before : (l : List ℕ) → Words32 (filled l) → Words32 l
+unfolding filled
+words-before l p j = go (decLt j (length l))
+  where
+    go : Dec (j < length l) → getD l j 0 < 0x100000000
+    go (yes h) = let e = List·getD-append l (filling l) 0 j h in omega (arith, p j)
+    go (no h) = let e = List·getD-eq-default l 0 {n = j} (omega arith) in omega arith
+
+-- THE RULE NAMES ONE LIST
+pub shortest-only : (ws : List Write) (l k : List ℕ) → Words32 l → Words32 k → Shortest ws l → Shortest ws k → l ≡ k
+shortest-only ws l k p q s u =
+    let a = words-before (s .unfilled) (rw (s .fills) at p) in
+    let b = words-before (u .unfilled) (rw (u .fills) at q) in
+    s .fills ∙ ap filled (rule-only ws (s .unfilled) (u .unfilled) a b (s .rule) (u .rule)) ∙ sym (u .fills)

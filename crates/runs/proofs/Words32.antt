@@ -1,5 +1,5 @@
 -- The packed list is made of 32-bit words where the values are, so the rule names it alone. Assumes nothing.
-use mathlib.Core.Path.{_≡_, refl}
+use mathlib.Core.Path.{_≡_, refl, ap, _∙_}
 use mathlib.Core.List.{List, [], _∷_, _++_}
 use Prim.Native.Nat.{ℕ, zero, suc, _+_, _-_, _%_, _≤_, _<_}
 use native.Mathlib.Omega.{arith}
@@ -10,13 +10,13 @@ use Rattle.words.specs.Writes.{Write, valuesIn}
 use Rattle.cuts.specs.Cuts.{first}
 use Rattle.cuts.proofs.Rests.{by-rests}
 use Rattle.runs.specs.Span.{chain, span}
-use Rattle.runs.specs.PackedList.{Packable, stepFor, header, command, packed}
+use Rattle.runs.specs.PackedList.{Packable, stepFor, header, command, packed, filled}
 use Rattle.runs.specs.Shortest.{Shortest, Words32}
 use Rattle.runs.proofs.PackedList.{packed-none, packed-more, first-command}
 use Rattle.runs.proofs.RoundTrip.{Plain, plain-drop}
-use Rattle.runs.proofs.Each.{Each, each-drop, says-packable, says-values}
-use Rattle.runs.proofs.Shortest.{plain, packed-shortest}
-use Rattle.runs.proofs.Only.{shortest-only}
+use Rattle.runs.proofs.Each.{Each, each-drop, says-packable, unfilled-values}
+use Rattle.runs.proofs.Shortest.{plain, packed-rule}
+use Rattle.runs.proofs.Only.{words-before, rule-only}
 
 -- every number of a list is a 32-bit word
 abbrev Small : List ℕ → Type 0
@@ -77,9 +77,10 @@ packed-small = by-rests (λ ws. Plain ws → Values32 ws → Small (packed ws)) 
 pub packed-words : (ws : List Write) → Packable ws → Values32 ws → Words32 (packed ws)
 packed-words ws p v = small-at (packed ws) (packed-small ws (plain ws p) v)
 
--- THE RULE NAMES THE PACKED LIST: a list of 32-bit words that is the shortest of a run is the run's packed list
-pub shortest-packed : (ws : List Write) (l : List ℕ) → Words32 l → Shortest ws l → l ≡ packed ws
-shortest-packed ws l h s =
+-- THE RULE NAMES THE LIST WRITTEN: a list of 32-bit words that is the shortest of a run is the run packed and filled
+pub shortest-written : (ws : List Write) (l : List ℕ) → Words32 l → Shortest ws l → l ≡ filled (packed ws)
+shortest-written ws l h s =
     let p = says-packable ws l (s .says) in
-    let w = packed-words ws p (says-values ws l h (s .says)) in
-    shortest-only ws l (packed ws) h w s (packed-shortest ws p)
+    let a = words-before (s .unfilled) (rw (s .fills) at h) in
+    let w = packed-words ws p (unfilled-values ws (s .unfilled) a (s .rule .says)) in
+    s .fills ∙ ap filled (rule-only ws (s .unfilled) (packed ws) a w (s .rule) (packed-rule ws p))

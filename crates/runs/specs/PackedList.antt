@@ -1,12 +1,12 @@
--- The list that the packer writes for a run of writes.
+-- The list that the packer writes for the writes given.
 use mathlib.Core.Path.{_≡_}
 use mathlib.Core.Bool.{true}
 use mathlib.Core.List.{List, [], _∷_, _++_}
 use Prim.Native.Nat.{ℕ, _+_, _*_, _-_, _%_, _≤_}
-use lib.Dec.{leb}
+use lib.Dec.{leb, eqb}
 use lib.ListN.{length, take, drop, replicate}
 use Rattle.numbers.specs.Pick.{pick}
-use Rattle.words.specs.Writes.{Write, writing, valuesIn, allowed}
+use Rattle.words.specs.Writes.{Write, writing, kept, valuesIn, allowed}
 use Rattle.cuts.specs.Cuts.{words, sizes}
 use Rattle.runs.specs.Span.{chain, span}
 
@@ -56,6 +56,17 @@ abbrev pub laid : List ℕ → List Write → List ℕ
 laid [] l = []
 laid (k ∷ ks) l = command k l ++ laid ks (drop k l)
 
--- THE PACKED LIST
+-- THE PACKED LIST of a run, before it is filled
 unfoldable pub packed : List Write → List ℕ
 packed l = laid (sizes span l) l
+
+-- at most one pair fills a list, parameter 0 and header 0: where its words are no multiple of 4. A packed list's are even in number
+abbrev pub filling : List ℕ → List ℕ
+filling l = pick (eqb (length l % 4) 0) [] (0 ∷ 0 ∷ [])
+
+unfoldable pub filled : List ℕ → List ℕ
+filled l = l ++ filling l
+
+-- THE LIST WRITTEN for the writes given: those of mask 0 are dropped, the others packed, and the list filled
+abbrev pub written : List Write → List ℕ
+written ws = filled (packed (kept ws))

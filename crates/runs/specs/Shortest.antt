@@ -1,14 +1,16 @@
--- What is asked of the packed list, as a statement about the lists that the reader accepts.
+-- What is asked of the list written, as a statement about the lists that the reader accepts.
 use mathlib.Core.Path.{_≡_}
+use mathlib.Core.Bool.{true}
 use mathlib.Core.List.{List, [], _∷_, map}
 use Prim.Native.Nat.{ℕ, _+_, _*_, _/_, _%_, _≤_, _<_}
 use lib.ListN.{length, getD}
 use Rattle.numbers.specs.Answer.{answered}
 use Rattle.words.specs.Header.{countOf, stepOf}
 use Rattle.words.specs.Writes.{Write}
-use Rattle.words.specs.Commands.{headerAt, commands, expansion}
+use Rattle.words.specs.Commands.{headerAt, commands, allWrites, expansion, wellFormed}
 use Rattle.reader.specs.ListVerdict.{verdict}
 use Rattle.cuts.specs.Cuts.{Most}
+use Rattle.runs.specs.PackedList.{filled}
 
 -- how many writes the commands at these places carry
 abbrev pub carried : List ℕ → List ℕ → List ℕ
@@ -28,19 +30,35 @@ abbrev pub AllTidy : List ℕ → List ℕ → Type 0
 AllTidy l [] = Unit {0}
 AllTidy l (p ∷ ps) = Tidy l p × AllTidy l ps
 
--- a list has a verdict that accepts it, and says a run; over 65,536 words a reading refuses it all the same
+-- the verdict accepts a list, and its expansion is the run, whoever packed it. The verdict asks for a legal length; commands of mask 0 may
+-- stand anywhere. Over 65,536 words a reading refuses the list all the same
 pub record Says (ws : List Write) (l : List ℕ) : Type 0 where
   pub accepted : verdict l ≡ answered (length ws)
   pub writes : expansion l ≡ ws
 
--- THE SHORTEST LIST of a run: it says the run; no accepted list that says it has fewer words; among those of its length its first command
--- carries the most writes, then its second, and so on; it is never longer than two words a write
+-- a list before filling says a run as document 01 has it: it is well formed, of any length, and all its writes are the run
+pub record SaysUnfilled (ws : List Write) (l : List ℕ) : Type 0 where
+  pub formed : wellFormed l ≡ true
+  pub writes : allWrites l ≡ ws
+
+-- DOCUMENT 01'S RULE, on lists before filling: it says the run; none that says it has fewer words; among those of its length its first
+-- command carries the most writes, then its second, and so on; it is never longer than two words a write
+pub record Rule (ws : List Write) (l : List ℕ) : Type 0 where
+  pub says : SaysUnfilled ws l
+  pub least : (other : List ℕ) → SaysUnfilled ws other → length l ≤ length other
+  pub most : (other : List ℕ) → SaysUnfilled ws other → length other ≤ length l → Most (sizesOf l) (sizesOf other)
+  pub tidy : AllTidy l (commands l 0)
+  pub short : length l ≤ 2 * length ws
+
+-- THE SHORTEST LIST of a run, which has no writes of mask 0: it says the run; no accepted list that says it has fewer words; it is the list
+-- that document 01's rule names, filled; it is never longer than two words a write plus two
 pub record Shortest (ws : List Write) (l : List ℕ) : Type 0 where
   pub says : Says ws l
   pub least : (other : List ℕ) → Says ws other → length l ≤ length other
-  pub most : (other : List ℕ) → Says ws other → length other ≤ length l → Most (sizesOf l) (sizesOf other)
-  pub tidy : AllTidy l (commands l 0)
-  pub short : length l ≤ 2 * length ws
+  pub unfilled : List ℕ
+  pub rule : Rule ws unfilled
+  pub fills : l ≡ filled unfilled
+  pub short : length l ≤ 2 * length ws + 2
 
 -- a list of 32-bit words
 abbrev pub Words32 : List ℕ → Type 0

@@ -18,7 +18,16 @@ fn consecutive() {
     // the same on registers that are held: five of them, one after another, and
     show::cells_after(
         b"consecutive, held",
-        &[2, 0x804F0040, 0x45E000, 0x38111110, 0x469000, 0x3747AE14],
+        &[
+            2,
+            0x804F0040,
+            0x45E000,
+            0x38111110,
+            0x469000,
+            0x3747AE14,
+            0,
+            0,
+        ],
         &[0x40, 0x41, 0x42, 0x43, 0x44],
     );
     // "Otherwise, the parameters will be consecutively written to the same register": the last one stays
@@ -31,7 +40,7 @@ fn consecutive() {
     // subsequent ones to .. DATA"
     show::judged(
         b"aliases",
-        &[0x80000000, 0x808F02C0, 1, 2, 3, 4, 5, 6, 7, 8],
+        &[0x80000000, 0x808F02C0, 1, 2, 3, 4, 5, 6, 7, 8, 0, 0],
     );
 }
 
@@ -39,19 +48,21 @@ fn consecutive() {
 fn widths() {
     // 01: "The empty list is well formed"
     show::judged(b"no command", &[0; 0]);
-    // 004: "In the simplest case, a command is exactly 8 bytes wide"
-    show::cells_after(b"two words", &[2, 0x000F0040], &[0x40]);
-    // a lone word is less
-    show::judged(b"a lone word", &[2]);
-    // 004: "a padding word to align commands to multiples of 8 bytes"; 01: its words aren't all there without it;
-    // "Any padding word .. accepted"
+    // 004: "In the simplest case, a command is exactly 8 bytes wide": two of them
+    show::cells_after(
+        b"commands of two words",
+        &[2, 0x000F0040, 3, 0x000F0102],
+        &[0x40, 0x102],
+    );
+    // 004: "a padding word to align commands to multiples of 8 bytes"; 01: "Any padding word .. accepted"
     show::judged(b"padded", &[1, 0x001F0041, 2, 0]);
-    show::judged(b"padding left out", &[1, 0x001F0041, 2]);
     show::judged(b"padded with a number", &[1, 0x001F0041, 2, 0xDEADBEEF]);
+    // 01: "a command needs more words than are left": six, with three extra parameters
+    show::judged(b"words left out", &[1, 0x003F0041, 2, 3]);
     // 01: "Commands stand one after another": the next begins after the padding
     show::cells_after(
         b"after the padding",
-        &[1, 0x001F0041, 2, 0, 3, 0x000F0042],
+        &[1, 0x001F0041, 2, 0, 3, 0x000F0042, 0, 0],
         &[0x41, 0x42],
     );
 }
@@ -59,17 +70,15 @@ fn widths() {
 // 004, "Command Header".
 fn headers() {
     // "28-30 Unused"; 01: "any unused bits are accepted"
-    show::cells_after(b"unused bits", &[2, 0x700F0040], &[0x40]);
-    // "20-27 Number of extra parameters (may be zero)": at most 255, which with the padding word makes 258 words
-    // (01: "256 equal ids: 258 words; 257: 260")
+    show::cells_after(b"unused bits", &[2, 0x700F0040, 0, 0x70000000], &[0x40]);
+    // "20-27 Number of extra parameters (may be zero)": at most 255, which with the padding word makes 258 words, and with the
+    // pair 260 (02: "258 becomes 260")
     let mut list = [0u32; 260];
     list[1] = 0x0FFF0040;
+    show::judged(b"255 extra", &list);
+    show::judged(b"255 extra, of which two are left out", &list[..256]);
     list[259] = 0x000F0040;
-    show::judged(b"255 extra", &list[..258]);
-    show::judged(b"255 extra, padding left out", &list[..257]);
     show::judged(b"255 extra, and a lone write", &list);
-    // 004, "GPUREG_FINALIZE": "0x12345678 is the value typically written by commercial software"
-    show::judged(b"the end of a buffer", &[0x12345678, 0x000F0010]);
 }
 
 pub(crate) fn all() {

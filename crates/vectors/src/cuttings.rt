@@ -3,15 +3,21 @@ use crate::show;
 
 // "cut anywhere, zero words too"
 fn cuttings() {
-    show::in_parts(b"one part", &[2, 0x000F0040], &[], &[], &[0x40]);
+    show::in_parts(b"one part", &[2, 0x000F0040, 0, 0], &[], &[], &[0x40]);
     show::in_parts(
         b"between first parameter and header",
         &[2],
-        &[0x000F0040],
+        &[0x000F0040, 0],
+        &[0],
+        &[0x40],
+    );
+    show::in_parts(
+        b"parts of zero words",
+        &[],
+        &[2, 0x000F0040, 0, 0],
         &[],
         &[0x40],
     );
-    show::in_parts(b"parts of zero words", &[], &[2, 0x000F0040], &[], &[0x40]);
     show::in_parts(
         b"before the padding word",
         &[1, 0x801F0041, 2],
@@ -24,7 +30,7 @@ fn cuttings() {
         b"in a run of port data",
         &[0, 0x000F00E6, 1, 0x002F00E8, 2],
         &[3],
-        &[],
+        &[0, 0],
         &[0xE6],
     );
 }
@@ -40,17 +46,17 @@ fn refusals() {
     );
     // 01, "A command": a command that lacks words is 2, before its writes
     show::in_parts(
-        b"padding left out",
-        &[1, 0x801F0041, 2],
-        &[],
+        b"words left out",
+        &[1, 0x803F0041, 2],
+        &[3],
         &[],
         &[0x41, 0x42],
     );
     show::in_parts(
         b"words missing, a write at fault",
         &[1],
-        &[0x801F0300],
-        &[2],
+        &[0x803F0300],
+        &[2, 3],
         &[],
     );
     // the first command at fault ends the reading, and its words are counted on
@@ -58,7 +64,7 @@ fn refusals() {
         b"at fault, and counted on",
         &[1, 0x000F0300],
         &[2, 0x000F0040],
-        &[1],
+        &[1, 0x003F0041, 2, 3],
         &[0x40],
     );
 }
@@ -69,6 +75,15 @@ fn limit() {
     show::in_parts(b"65,536 words", &most, &[], &[], &[]);
     show::in_parts(b"one word more", &most, &[0], &[0, 0], &[]);
     show::in_parts(b"a fault before them", &[1, 0x000F0300], &most, &[], &[]);
+    // 02: "refusal 15, place 0, tested after 1 and before any command, also at the close"
+    show::in_parts(b"two words more", &most, &[0], &[0], &[]);
+    show::in_parts(
+        b"two words less",
+        &[1, 0x000F0300],
+        &most[..65532],
+        &[],
+        &[],
+    );
 }
 
 pub(crate) fn all() {

@@ -3,7 +3,7 @@ use crate::show;
 
 // "A single masked write should also say whether the cell, entry or index it touches differs afterwards"; 107 holds 1F71
 fn single_writes() {
-    let held = [0x1F71, 0x000F0107];
+    let held = [0x1F71, 0x000F0107, 0, 0];
     show::written_after(b"another value", &[], 0x107, 15, 0x1F71);
     show::written_after(b"the value that is there", &held, 0x107, 15, 0x1F71);
     show::written_after(b"equal in the byte that is written", &held, 0x107, 1, 0x71);
@@ -20,12 +20,18 @@ fn single_writes() {
     show::written_after(b"an id that isn't held", &held, 0x11C, 15, 1);
     show::written_after(
         b"an index with its own value",
-        &[5, 0x000F00E6],
+        &[5, 0x000F00E6, 0, 0],
         0xE6,
         15,
         5,
     );
-    show::written_after(b"an index with another", &[5, 0x000F00E6], 0xE6, 15, 6);
+    show::written_after(
+        b"an index with another",
+        &[5, 0x000F00E6, 0, 0],
+        0xE6,
+        15,
+        6,
+    );
     show::written_after(b"refused", &held, 0x23C, 15, 0);
 }
 
@@ -35,7 +41,7 @@ fn ports() {
     show::written_after(b"light data that its entry holds", &[], 0x1C8, 15, 0);
     show::written_after(
         b"an unnamed table's data",
-        &[0x200, 0x000F01C5],
+        &[0x200, 0x000F01C5, 0, 0],
         0x1C8,
         15,
         0,
@@ -56,11 +62,15 @@ fn lists() {
         &[1, 0x802F0041, 2, 3],
     );
     show::counts_after(b"one value twice", &[], &[5, 0x001F0041, 5, 0]);
-    show::counts_after(b"there and back", &[5, 0x000F0041], &[5, 0x002F0041, 6, 5]);
+    show::counts_after(
+        b"there and back",
+        &[5, 0x000F0041, 0, 0],
+        &[5, 0x002F0041, 6, 5],
+    );
     show::counts_after(
         b"five values, the third and the last as before",
         &[],
-        &[1, 0x004F0041, 2, 2, 1, 1],
+        &[1, 0x004F0041, 2, 2, 1, 1, 0, 0],
     );
     show::counts_after(
         b"a table's data, twice the same",

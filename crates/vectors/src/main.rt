@@ -8,6 +8,7 @@ mod packing;
 mod ports;
 mod refusals;
 mod show;
+mod sixteen;
 
 fn main() {
     commands::all();
@@ -17,4 +18,5 @@ fn main() {
     packing::all();
     cuttings::all();
     differences::all();
+    sixteen::all();
 }

@@ -1,4 +1,5 @@
-// Packing: document 01, "Packing", its examples, and lengths around a command's 256 writes.
+// Packing: document 01, "Packing", its examples, and lengths around a command's 256 writes; request 3 of document 02, which fills lists
+// and drops writes with mask 0.
 use crate::show;
 use packer::Packed;
 
@@ -36,7 +37,7 @@ fn pack_first(
     put_packed(label, n, answer);
 }
 
-// n writes to 41, with room for `room` words. 01: "256 equal ids: 258 words; 257: 260".
+// n writes to 41, with room for `room` words. 01: "256 equal ids: 258 words; 257: 260"; 02: "258 becomes 260".
 fn equal_ids(n: usize, room: usize) {
     let mut space = [0u32; 1200];
     pack_first(
@@ -75,7 +76,7 @@ fn rising_ids(n: usize) {
     );
 }
 
-// Packs writes of one mask, and shows the words that were put.
+// Packs writes, and shows the words that were put.
 fn pack_shown(label: &[u8], ids: &[u32], masks: &[u32], values: &[u32], space: &mut [u32]) {
     let answer = packer::pack(ids, masks, values, space);
     put_packed(label, ids.len(), answer);
@@ -101,7 +102,7 @@ fn run(label: &[u8], ids: &[u32], values: &[u32]) {
 }
 
 fn runs() {
-    // 01's two examples, and "Taking the longest run first: 8 words where 6 do"
+    // 01's two examples, and "Taking the longest run first: 8 words where 6 do"; 02: "The six-word examples gain the pair `0 0`"
     run(b"41 41 42 43", &[0x41, 0x41, 0x42, 0x43], &[1, 2, 3, 4]);
     run(b"41 41 42", &[0x41, 0x41, 0x42], &[1, 2, 3]);
     run(
@@ -114,6 +115,40 @@ fn runs() {
     // refused: 3 at its index, and lengths that differ
     run(b"41 300", &[0x41, 0x300], &[1, 2]);
     run(b"two ids, one value", &[0x41, 0x42], &[1]);
+}
+
+// A few writes with masks of their own.
+fn masked(label: &[u8], ids: &[u32], masks: &[u32], values: &[u32]) {
+    let mut space = [0u32; 16];
+    pack_shown(label, ids, masks, values, &mut space);
+}
+
+// 02: "Writes with mask 0 are still checked, but no longer belong to an expansion: the packer drops them"
+fn dropped() {
+    masked(
+        b"41, then 99 with mask 0, then 42",
+        &[0x41, 0x99, 0x42],
+        &[15, 0, 15],
+        &[1, 2, 3],
+    );
+    masked(
+        b"99 with mask 0 before 41, between and after",
+        &[0x99, 0x41, 0x99, 0x41, 0x99],
+        &[0, 15, 0, 15, 0],
+        &[1, 2, 3, 4, 5],
+    );
+    masked(
+        b"41, 42 and 43, 42 with mask 0",
+        &[0x41, 0x42, 0x43],
+        &[15, 0, 15],
+        &[1, 2, 3],
+    );
+    masked(b"mask 0 alone", &[0x41, 0x42], &[0, 0], &[1, 2]);
+    // "the index in a packer's refusal .. still count every write given"
+    masked(b"mask 0, and then 300", &[0x41, 0x300], &[0, 15], &[1, 2]);
+    masked(b"300 with mask 0", &[0x41, 0x300], &[15, 0], &[1, 2]);
+    masked(b"23C with mask 0", &[0x41, 0x23C], &[15, 0], &[1, 2]);
+    masked(b"port data with mask 0", &[0x41, 0xE8], &[15, 0], &[1, 2]);
 }
 
 fn equal_lengths() {
@@ -129,8 +164,8 @@ fn equal_lengths() {
     equal_ids(512, 1200);
     equal_ids(513, 1200);
     // room for all but one word, and just enough
-    equal_ids(256, 257);
-    equal_ids(256, 258);
+    equal_ids(256, 259);
+    equal_ids(256, 260);
 }
 
 fn rising_lengths() {
@@ -147,6 +182,7 @@ fn rising_lengths() {
 pub(crate) fn all() {
     show::group(b"packing");
     runs();
+    dropped();
     equal_lengths();
     rising_lengths();
 }

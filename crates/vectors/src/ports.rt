@@ -6,7 +6,7 @@ fn fog() {
     // selected with GPUREG_FOG_LUT_INDEX"
     show::fog_after(
         b"fog, one id",
-        &[0, 0x000F00E6, 0x111111, 0x001F00E8, 0x222222, 0],
+        &[0, 0x000F00E6, 0x111111, 0x001F00E8, 0x222222, 0, 0, 0],
         &[0, 1, 2],
     );
     // "These registers", E8 to EF, are one port
@@ -16,11 +16,11 @@ fn fog() {
         &[4, 5, 6, 7, 8, 9, 10, 11, 12, 13],
     );
     // "0-23 LUT data"; 01: "The low 24 bits"
-    show::fog_after(b"fog, 24 bits", &[0xFFFFFFFF, 0x000F00E8], &[0]);
+    show::fog_after(b"fog, 24 bits", &[0xFFFFFFFF, 0x000F00E8, 0, 0], &[0]);
     // 01: "then E6 rises by one, 127 to 0"
     show::fog_after(
         b"fog, 127 to 0",
-        &[127, 0x000F00E6, 0x111111, 0x001F00E8, 0x222222, 0],
+        &[127, 0x000F00E6, 0x111111, 0x001F00E8, 0x222222, 0, 0, 0],
         &[127, 0],
     );
     // 01: "004 gives a 16-bit index and 002 seven bits; 002 decides"
@@ -41,7 +41,7 @@ fn light() {
     // 01: "then bits 0-7 rise by one, 255 to 0, and the table number stays"
     show::light_after(
         b"light, 255 to 0",
-        &[0x1FF, 0x000F01C5, 1, 0x001F01C8, 2, 0],
+        &[0x1FF, 0x000F01C5, 1, 0x001F01C8, 2, 0, 0, 0],
         &[0x1FF, 0x100, 0x200],
     );
     // 004: "16-23 DA0-7"; the last table with a name

@@ -6,12 +6,12 @@ use Prim.Native.Nat.{ℕ, zero, suc, _+_, _-_, _≤_, _<_}
 use native.Mathlib.Numerals.{sub-one}
 use native.Mathlib.Omega.{arith}
 use lib.Dec.{ltb, leb, eqb}
-use lib.ListN.{length}
-use borrow.Author.Tests.{ltb-true, ltb-false, lt-ltb, le-ltb, le-leb, lt-leb, leb-true, leb-false}
+use lib.ListN.{length, length-append}
+use borrow.Author.Tests.{ltb-true, ltb-false, lt-ltb, le-ltb, le-leb, lt-leb, leb-true, leb-false, eq-eqb, ne-eqb, eqb-true, eqb-false}
 use Rattle.numbers.specs.Pick.{pick}
-use Rattle.words.specs.Header.{maskOf, countOf, stepOf, wordsOf}
-use Rattle.words.specs.Writes.{Write, writing, jumps, portData, allowed, faultOf}
-use Rattle.words.specs.Commands.{headerAt, paramAt, whole, run, expand, places, commands, join, expansion, full, wellFormed}
+use Rattle.words.specs.Header.{maskOf, countOf, stepOf, wordsOf, addsOf}
+use Rattle.words.specs.Writes.{Write, writing, kept, jumps, portData, allowed, faultOf}
+use Rattle.words.specs.Commands.{headerAt, paramAt, whole, run, expand, places, commands, join, allWrites, expansion, full, wellFormed}
 
 -- THE COMMANDS, one after another
 
@@ -63,10 +63,81 @@ unfolding run
 run-length l at zero k i = refl
 run-length l at (suc n) k i = ap suc (run-length l at n (k + 1) (i + stepOf (headerAt l at)))
 
+-- THE WRITES THAT BELONG TO AN EXPANSION: those whose mask isn't 0
+
+pub kept-none : kept [] ≡ []
+unfolding kept
+kept-none = refl
+
+-- a write with mask 0 goes
+pub kept-drops : (w : Write) (ws : List Write) → w .mask ≡ 0 → kept (w ∷ ws) ≡ kept ws
+unfolding kept
+kept-drops w ws h = rw (eq-eqb (w .mask) 0 h)
+
+-- any other stays
+pub kept-keeps : (w : Write) (ws : List Write) → (w .mask ≡ 0 → ⊥) → kept (w ∷ ws) ≡ w ∷ kept ws
+unfolding kept
+kept-keeps w ws h = rw (ne-eqb (w .mask) 0 h)
+
+picked-append : (t : Bool) (w : Write) (a b : List Write) → pick t (a ++ b) (w ∷ a ++ b) ≡ pick t a (w ∷ a) ++ b
+picked-append true w a b = refl
+picked-append false w a b = refl
+
+pub kept-append : (a b : List Write) → kept (a ++ b) ≡ kept a ++ kept b
+unfolding kept
+kept-append [] b = refl
+kept-append (w ∷ a) b = rw (kept-append a b) (picked-append (eqb (w .mask) 0) w (kept a) (kept b))
+
+pub kept-few : (ws : List Write) → length (kept ws) ≤ length ws
+unfolding kept
+kept-few [] = omega arith
+kept-few (w ∷ ws) = go (eqb (w .mask) 0) (kept-few ws)
+  where
+    go : (t : Bool) → length (kept ws) ≤ length ws → length (pick t (kept ws) (w ∷ kept ws)) ≤ suc (length ws)
+    go true h = omega arith
+    go false h = omega arith
+
+-- a command adds no more than its writes
+pub adds-most : (h : ℕ) → addsOf h ≤ countOf h + 1
+adds-most h = go (eqb (maskOf h) 0)
+  where
+    go : (t : Bool) → pick t 0 (countOf h + 1) ≤ countOf h + 1
+    go true = omega arith
+    go false = omega arith
+
+-- of writes that have one mask all stay, or none
+abbrev pub OneMask : ℕ → List Write → Type 0
+OneMask m [] = Unit {0}
+OneMask m (w ∷ ws) = (w .mask ≡ m) × OneMask m ws
+
+pub kept-dropped : (m : ℕ) (ws : List Write) → OneMask m ws → m ≡ 0 → kept ws ≡ []
+kept-dropped m [] o z = kept-none
+kept-dropped m (w ∷ ws) o z = kept-drops w ws (o .0 ∙ z) ∙ kept-dropped m ws (o .1) z
+
+pub kept-all : (m : ℕ) (ws : List Write) → OneMask m ws → (m ≡ 0 → ⊥) → kept ws ≡ ws
+kept-all m [] o n = kept-none
+kept-all m (w ∷ ws) o n = kept-keeps w ws (λ z. n (sym (o .0) ∙ z)) ∙ rw (kept-all m ws (o .1) n)
+
+-- as a command's writes have
+pub run-mask : (l : List ℕ) (at n k i : ℕ) → OneMask (maskOf (headerAt l at)) (run l at n k i)
+unfolding run
+run-mask l at zero k i = tt
+run-mask l at (suc n) k i = (refl, run-mask l at n (k + 1) (i + stepOf (headerAt l at)))
+
+pub run-dropped : (l : List ℕ) (at n k i : ℕ) → maskOf (headerAt l at) ≡ 0 → kept (run l at n k i) ≡ []
+run-dropped l at n k i h = kept-dropped (maskOf (headerAt l at)) (run l at n k i) (run-mask l at n k i) h
+
+pub run-kept : (l : List ℕ) (at n k i : ℕ) → (maskOf (headerAt l at) ≡ 0 → ⊥) → kept (run l at n k i) ≡ run l at n k i
+run-kept l at n k i h = kept-all (maskOf (headerAt l at)) (run l at n k i) (run-mask l at n k i) h
+
 -- THE EXPANSION AND THE FORM OF A LIST
 
-pub expansion-of : (l : List ℕ) → expansion l ≡ join l (commands l 0)
-unfolding expansion
+pub all-of : (l : List ℕ) → allWrites l ≡ join l (commands l 0)
+unfolding allWrites
+all-of l = refl
+
+pub expansion-of : (l : List ℕ) → expansion l ≡ kept (join l (commands l 0))
+unfolding expansion allWrites
 expansion-of l = refl
 
 pub join-none : (l : List ℕ) → join l [] ≡ []

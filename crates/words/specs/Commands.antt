@@ -1,12 +1,12 @@
--- What a list of words says: its commands, and their expansion as single writes.
+-- What a list of words says: its commands, their writes, and which of these are its expansion; and its form.
 use mathlib.Core.Bool.{Bool, true, _&&_}
 use mathlib.Core.List.{List, [], _∷_, _++_}
-use Prim.Native.Nat.{ℕ, zero, suc, _+_, _-_}
+use Prim.Native.Nat.{ℕ, zero, suc, _+_, _-_, _%_}
 use lib.Dec.{ltb, leb, eqb}
 use lib.ListN.{length, getD}
 use Rattle.numbers.specs.Pick.{pick}
 use Rattle.words.specs.Header.{idOf, maskOf, countOf, stepOf, wordsOf}
-use Rattle.words.specs.Writes.{Write, writing}
+use Rattle.words.specs.Writes.{Write, writing, kept}
 
 -- the header of the command whose first word stands at `at`
 abbrev pub headerAt : List ℕ → ℕ → ℕ
@@ -26,7 +26,7 @@ run l at zero k i = []
 run l at (suc n) k i =
     writing i (maskOf (headerAt l at)) (paramAt l at k) ∷ run l at n (k + 1) (i + stepOf (headerAt l at))
 
--- THE EXPANSION OF A COMMAND, whose words are all there: one write for each parameter in order
+-- THE WRITES OF A COMMAND, whose words are all there: one for each parameter in order, each with the command's mask
 abbrev pub expand : List ℕ → ℕ → List Write
 expand l at = run l at (countOf (headerAt l at) + 1) 0 (idOf (headerAt l at))
 
@@ -41,13 +41,21 @@ places (suc n) l at =
 unfoldable pub commands : List ℕ → ℕ → List ℕ
 commands l at = places (length l - at) l at
 
--- THE EXPANSION OF A LIST, which is well formed, joins those of its commands
+-- THE WRITES OF A LIST, which is well formed, join those of its commands; all of them are checked
 unfoldable pub join : List ℕ → List ℕ → List Write
 join l [] = []
 join l (p ∷ ps) = expand l p ++ join l ps
 
+unfoldable pub allWrites : List ℕ → List Write
+allWrites l = join l (commands l 0)
+
+-- THE EXPANSION OF A LIST: its writes, but for those of mask 0
 unfoldable pub expansion : List ℕ → List Write
-expansion l = join l (commands l 0)
+expansion l = kept (allWrites l)
+
+-- a legal length: the words are a multiple of 4, which is sixteen bytes
+abbrev pub legal : List ℕ → Bool
+legal l = eqb (length l % 4) 0
 
 -- commands fill the list: none lacks words. The empty list is well formed
 unfoldable pub full : List ℕ → List ℕ → Bool

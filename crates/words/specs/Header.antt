@@ -1,5 +1,7 @@
--- A command's header word, and the words that its command takes.
+-- A command's header word, the words that its command takes, and the writes that it adds to the expansion.
 use Prim.Native.Nat.{ℕ, _+_, _/_, _%_}
+use lib.Dec.{eqb}
+use Rattle.numbers.specs.Pick.{pick}
 
 -- bits 0-15: the id
 abbrev pub idOf : ℕ → ℕ
@@ -25,3 +27,11 @@ wordsWith count = 2 + count + (2 + count) % 2
 -- by its header
 abbrev pub wordsOf : ℕ → ℕ
 wordsOf h = wordsWith (countOf h)
+
+-- how many writes a command with a mask and so many extra parameters adds to the expansion: with mask 0 none
+abbrev pub addsWith : ℕ → ℕ → ℕ
+addsWith mask count = pick (eqb mask 0) 0 (count + 1)
+
+-- by its header
+abbrev pub addsOf : ℕ → ℕ
+addsOf h = addsWith (maskOf h) (countOf h)

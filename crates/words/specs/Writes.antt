@@ -1,7 +1,7 @@
 -- A single write, and when it is allowed: said twice, as the document does, and law `allowed-fault` has the two agree. A mask above 15
 -- can't stand in a header; where it is given as a number, it is refused with 9 before these tests.
 use mathlib.Core.Bool.{Bool, not, _&&_, _||_}
-use mathlib.Core.List.{List, map}
+use mathlib.Core.List.{List, [], _∷_, map}
 use Prim.Native.Nat.{ℕ}
 use lib.Dec.{leb, ltb, eqb}
 use Rattle.numbers.specs.Pick.{pick, within}
@@ -13,6 +13,11 @@ pub record Write : Type 0 where
 
 abbrev pub writing : ℕ → ℕ → ℕ → Write
 writing i m v = record { id = i; mask = m; value = v }
+
+-- a run without its writes of mask 0: these are checked like any others, but belong to no expansion
+unfoldable pub kept : List Write → List Write
+kept [] = []
+kept (w ∷ ws) = let rest = kept ws in pick (eqb (w .mask) 0) rest (w ∷ rest)
 
 -- a run of writes as three rows: its ids, its masks, its values
 abbrev pub idsIn : List Write → List ℕ

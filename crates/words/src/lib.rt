@@ -5,7 +5,7 @@ ghost use Rattle.words.specs.Header.{idOf, maskOf, countOf, stepOf, word
 ghost use Rattle.words.specs.Taken.{headOf, told, headNumbers, refusalIn};
 ghost use Rattle.words.specs.Writes.{faultOf};
 
-// A refusal: its number, of the table "Numbers given back" and for 22 of document 02, and its place.
+// A refusal: its number, of the table "Numbers given back" and for 15 and 22 of document 02, and its place.
 pub struct Refusal {
     pub number: u32,
     pub place: usize,
@@ -36,6 +36,8 @@ pub const DEPTH_ABOVE_LARGEST: u32 = 12;
 pub const CODE_WITHOUT_NAME: u32 = 13;
 
 pub const NOT_BUILT: u32 = 14;
+
+pub const ILLEGAL_LENGTH: u32 = 15;
 
 pub const TOO_FEW_PLACES: u32 = 22;
 

@@ -23,22 +23,22 @@ pub record Listing (l is ms vs : List ℕ) (a : Answer) (is′ ms′ vs′ : Lis
 
 module _ (l is ms vs : List ℕ) where
   -- a refusal keeps the buffers
-  kept : (r p : ℕ) → refused r p ≡ writesAnswer l is ms vs → Listing l is ms vs (refused r p) is ms vs
-  kept r p e = record { answer = e; ids = rw (← e); masks = rw (← e); values = rw (← e) }
+  keeps : (r p : ℕ) → refused r p ≡ writesAnswer l is ms vs → Listing l is ms vs (refused r p) is ms vs
+  keeps r p e = record { answer = e; ids = rw (← e); masks = rw (← e); values = rw (← e) }
 
   pub lengths-differ : level is ms vs ≡ false → Listing l is ms vs (refused 7 0) is ms vs
   unfolding writesAnswer
-  lengths-differ t = kept 7 0 (rw t)
+  lengths-differ t = keeps 7 0 (rw t)
 
   module _ (t : level is ms vs ≡ true) where
     pub too-long : 65536 < length l → Listing l is ms vs (refused 1 0) is ms vs
     unfolding writesAnswer
-    too-long h = kept 1 0 (rw (t, lt-leb (length l) 65536 h))
+    too-long h = keeps 1 0 (rw (t, lt-leb (length l) 65536 h))
 
     module _ (h : length l ≤ 65536) where
       pub list-refused : (r p : ℕ) → verdict l ≡ refused r p → Listing l is ms vs (refused r p) is ms vs
       unfolding writesAnswer
-      list-refused r p v = kept r p (rw (t, le-leb (length l) 65536 h, v))
+      list-refused r p v = keeps r p (rw (t, le-leb (length l) 65536 h, v))
 
       -- an accepted list goes by the room
       module _ (n : ℕ) (v : verdict l ≡ answered n) where
@@ -47,7 +47,7 @@ module _ (l is ms vs : List ℕ) where
         by-room a e = rw (t, le-leb (length l) 65536 h, v) (e (verdict-accepted l n v .2))
 
         pub no-room : length is < n → Listing l is ms vs (refused 22 n) is ms vs
-        no-room k = kept 22 n (by-room (refused 22 n) (λ e. room-short 22 (length (expansion l)) (length is) n e k))
+        no-room k = keeps 22 n (by-room (refused 22 n) (λ e. room-short 22 (length (expansion l)) (length is) n e k))
 
         pub room : n ≤ length is → (is′ ms′ vs′ : List ℕ)
             → (is′ ≡ idsIn (expansion l) ++ drop (length (expansion l)) is)

@@ -11,8 +11,8 @@ use Rattle.words.specs.Writes.{idsIn, masksIn, valuesIn}
 use Rattle.words.specs.Commands.{expansion}
 use Rattle.reader.specs.ListVerdict.{verdict}
 
--- for a list and three buffers, ids, masks and values: 7 where they differ in length; then the reader's refusals of the list, 1 and then
--- the commands'; then the number of its writes where there are places for them, else 22 with the places needed
+-- for a list and three buffers, ids, masks and values: 7 where they differ in length; then the reader's refusals of the list, 1, 15
+-- and then the commands'; then the number of writes in its expansion where there are places for them, else 22 with the places needed
 unfoldable pub writesAnswer : List ℕ → List ℕ → List ℕ → List ℕ → Answer
 writesAnswer l is ms vs =
     pick (level is ms vs)

@@ -1,5 +1,5 @@
-// The writes of a list: the list is judged as the reader judges it, and then its writes are put into three buffers, ids, masks and
-// values, command by command. The contracts cite specs/Listed.antt.
+// The writes of a list's expansion: the list is judged as the reader judges it, and then its writes are put into three buffers, ids, masks
+// and values, command by command; those of mask 0 are passed over. The contracts cite specs/Listed.antt.
 ghost use mathlib.Core.Path.{_≡_};
 ghost use mathlib.Core.Bool.{true};
 ghost use mathlib.Core.List.{_++_};
@@ -119,7 +119,7 @@ fn put_command(
     put_values(list, at, values, k);
 }
 
-// The writes of a well-formed list, into buffers that have room for them.
+// The expansion of a well-formed list, into buffers that have room for it. A command of mask 0 adds nothing to it.
 fn put_list(list: &[u32], ids: &mut [u32], masks: &mut [u32], values: &mut [u32])
     requires { ⌜ wellFormed (now list) ≡ true ⌝ }
     requires { ⌜
@@ -143,16 +143,20 @@ fn put_list(list: &[u32], ids: &mut [u32], masks: &mut [u32], values: &mut [u32]
     let mut k = 0;
     while at < list.len() {
         let h = words::parts(list[at + 1]);
-        let count = h.count as usize;
         let taken = words::words_taken(h);
+        if h.mask == 0 {
+            at += taken;
+            continue;
+        }
+        let count = h.count as usize;
         put_command(list, at, ids, masks, values, k);
         k += count + 1;
         at += taken;
     }
 }
 
-// The writes of a list put into three buffers of one length, from their start: how many there are; or a refusal, 7, then the reader's of
-// the list, then 22 with the places needed. Places past the writes keep their contents; on a refusal all of them do.
+// The expansion of a list put into three buffers of one length, from their start: how many writes it has; or a refusal, 7, then the
+// reader's of the list, then 22 with the places needed. Places past the writes keep their contents; on a refusal all of them do.
 pub fn writes_of(
     list: &[u32],
     ids: &mut [u32],

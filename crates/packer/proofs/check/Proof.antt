@@ -39,7 +39,7 @@ returns-3 c =
     let a = c .before .before .before .before .before .before .before .args in
     let t = not-false _ (c .before .before .before .if1 .left) in
     let l = level-lengths (a .ids .now) (a .masks .now) (a .values .now) t in
-    sym (check-writes _ _ _ t (c .before .before .if2 .left) ∙ c .before .all-right .ensures (a .values .now) (l .1) (c .if3 .taken))
+    sym (check-writes _ _ _ t (c .before .before .if2 .left) ∙ c .before .all-right .ensures (a .values .now) (l .1) (c .if3 .taken) .right)
 
 loop-holds : tie.Need-loop-holds Inv-loop μ-loop
 loop-holds c =

@@ -1,14 +1,14 @@
--- The loop: as long as none is counted, no write before i is refused, so what is left decides. Assumes nothing.
-use mathlib.Core.Path.{_≡_, refl, sym, _∙_}
+-- The loop: as long as none is counted, no write before i is refused or dropped, so what is left decides. Assumes nothing.
+use mathlib.Core.Path.{_≡_}
 use mathlib.Core.List.{List}
 use Prim.Native.Nat.{ℕ, _-_, _≤_}
 use native.Mathlib.Omega.{arith}
 use lib.ListN.{length, drop}
 use borrow.Author.Needs.{needs}
 use Rattle.runs.specs.PackedList.{writes}
-use Rattle.packer.specs.Checks.{firstWrong}
+use Rattle.packer.specs.Keeping.{Clear}
 use Rattle.numbers.proofs.Room.{lengths-level}
-use Rattle.packer.proofs.Checks.{wrong-none, wrong-end}
+use Rattle.packer.proofs.Keeping.{clear-more, clear-end}
 use Rattle.packer.proofs.count_wrong.Statement.{statement}
 use Rattle.packer.proofs.count_wrong.Tie as tie
 
@@ -16,13 +16,13 @@ abbrev Inv-loop : tie.InvT-loop
 Inv-loop ids masks count₀ i₀ count i =
     (i ≤ length ids) × (count ≤ i)
     × ((vs : List ℕ) → length ids ≡ length vs → count ≡ 0
-    → firstWrong 0 (writes ids masks vs) ≡ firstWrong i (drop i (writes ids masks vs)))
+    → Clear i (drop i (writes ids masks vs)) → Clear 0 (writes ids masks vs))
 
 abbrev μ-loop : tie.MeasureT-loop
 μ-loop ids masks count₀ i₀ count i = length ids - i
 
 loop-holds : tie.Need-loop-holds Inv-loop μ-loop
-loop-holds c = (omega arith, omega arith, (λ vs q r. refl))
+loop-holds c = (omega arith, omega arith, (λ vs q r d. d))
 
 mul-counted : tie.Need-mul-counted Inv-loop μ-loop
 mul-counted c = search needs
@@ -56,12 +56,12 @@ loop-again c =
     let w = c .counted in (
       omega arith,
       omega (arith, w .ensures .0, o .inv .1),
-      (λ vs q r.
+      (λ vs q r d.
           let z : o .count ≡ 0 = omega arith in
           let y : w .result ≡ 0 = omega arith in
           let e = lengths-level (a .ids .now) (a .masks .now) vs (b .pre .0) q in
           let t = c .before .before .before .loop-test .taken in
-          o .inv .2 vs q z ∙ wrong-none (a .ids .now) (a .masks .now) vs (o .i) e t 0 (sym (w .ensures .1 y)) refl),
+          o .inv .2 vs q z (clear-more (a .ids .now) (a .masks .now) vs (o .i) e t (w .ensures .1 y) d)),
     )
 
 returns : tie.Need-returns Inv-loop μ-loop
@@ -71,7 +71,7 @@ returns c =
     let o = c .before .loop in
     λ vs q r.
     let e = lengths-level (a .ids .now) (a .masks .now) vs (b .pre .0) q in
-    o .inv .2 vs q r ∙ wrong-end (a .ids .now) (a .masks .now) vs (o .i) e (c .loop-test .left)
+    o .inv .2 vs q r (clear-end (a .ids .now) (a .masks .now) vs (o .i) e (c .loop-test .left))
 
 pub count-wrong-spec : {M : Type 1} → statement M
 count-wrong-spec =

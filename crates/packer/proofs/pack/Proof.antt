@@ -1,92 +1,49 @@
--- A refusal of the writes stands; else the writes can be packed, and `fill` answers, with little
--- room to plan in or with much. Assumes nothing.
-use mathlib.Core.Path.{_≡_, sym, ap, _∙_}
-use native.Mathlib.Omega.{arith}
+-- A refusal of the writes stands; else they can be packed, and what is put is the list of those that are kept. Assumes nothing.
+use mathlib.Core.Path.{_≡_}
+use mathlib.Core.Bool.{true}
 use borrow.Author.Needs.{needs}
-use Rattle.numbers.specs.Answer.{answered}
-use Rattle.runs.specs.PackedList.{PackableRun}
-use Rattle.packer.specs.Checks.{found, checkAnswer}
 use Rattle.packer.proofs.Checks.{check-given}
 use Rattle.packer.proofs.Packs.{pack-refused, pack-room}
 use Rattle.packer.proofs.pack.Statement.{statement}
 use Rattle.packer.proofs.pack.Tie as tie
 
-check-requires : tie.Need-check-requires
-check-requires c κs = search needs
+look-requires : tie.Need-look-requires
+look-requires c κs = search needs
 
-enum-known-checked : tie.Need-enum-known-checked
-enum-known-checked c = search needs
+enum-known-live : tie.Need-enum-known-live
+enum-known-live c = search needs
 
-returns : tie.Need-returns
-returns c =
-    let a = c .before .before .before .before .before .before .before .before .args in
-    pack-refused (a .ids .now) (a .masks .now) (a .values .now) (a .space .now) _ _
-    (sym (c .before .before .before .check .ensures) ∙ ap found (c .before .checked .given .1))
+pack-checked-requires : tie.Need-pack-checked-requires
+pack-checked-requires c κs =
+    let s = rw (c .before .before .live .given .1) at (c .before .before .before .before .look .ensures) in
+    (check-given _ _ _ 0 (s .0), s .1)
 
-enum-told : tie.Need-enum-told
-enum-told c = search needs
-
-abbrev start : tie.After-enum-told → tie.Start
-start c = c .before .before .before .before .before .before .before
-
-fine : (c : tie.After-enum-told)
-    → checkAnswer (start c .args .ids .now) (start c .args .masks .now) (start c .args .values .now) ≡ answered 0
-fine c = sym (c .before .before .check .ensures) ∙ ap found (c .enum-told .given .1)
-
-given : (c : tie.After-enum-told) → PackableRun (start c .args .ids .now) (start c .args .masks .now) (start c .args .values .now)
-given c = check-given _ _ _ 0 (fine c)
-
-slice-aggregate-fill : tie.Need-slice-aggregate-fill
-slice-aggregate-fill c = search needs
-
-slice-aggregate-fill-2 : tie.Need-slice-aggregate-fill-2
-slice-aggregate-fill-2 c = search needs
-
-fill-requires : tie.Need-fill-requires
-fill-requires c κs =
-    let g = given (c .before .before .before .before) in (g, omega arith, omega arith)
+enum-known-why : tie.Need-enum-known-why
+enum-known-why c = search needs
 
 same-length : tie.Need-same-length
 same-length c = search needs
 
+returns : tie.Need-returns
+returns c =
+    let d = c .before .before .before .before .before in
+    let s = rw (d .live .given .1) at (d .before .before .look .ensures) in
+    let o = c .before .before .pack-checked .ensures in
+    pack-room _ _ _ _ 0 _ _ (s .0) (o .0) (o .1)
+
 returns-2 : tie.Need-returns-2
 returns-2 c =
-    let o = c .before .before .before .before .fill .ensures in
-    pack-room _ _ _ _ 0 _ _ (fine (c .before .before .before .before .before .before .before .before .before)) (o .0) (o .1)
-
-slice-aggregate-fill-3 : tie.Need-slice-aggregate-fill-3
-slice-aggregate-fill-3 c = search needs
-
-slice-aggregate-fill-4 : tie.Need-slice-aggregate-fill-4
-slice-aggregate-fill-4 c = search needs
-
-fill-requires-2 : tie.Need-fill-requires-2
-fill-requires-2 c κs =
-    let g = given (c .before .before .before .before) in (g, omega (arith, g .few), omega (arith, g .few))
-
-same-length-2 : tie.Need-same-length-2
-same-length-2 c = search needs
-
-returns-3 : tie.Need-returns-3
-returns-3 c =
-    let o = c .before .before .before .before .fill2 .ensures in
-    pack-room _ _ _ _ 0 _ _ (fine (c .before .before .before .before .before .before .before .before .before)) (o .0) (o .1)
+    let s = rw (c .before .why .given .1) at (c .before .before .before .look .ensures) in
+    pack-refused _ _ _ _ _ _ s
 
 pub pack-spec : {M : Type 1} → statement M
 pack-spec =
     tie.close
     (tie.spec
-    check-requires
-    enum-known-checked
-    returns
-    enum-told
-    slice-aggregate-fill
-    slice-aggregate-fill-2
-    fill-requires
+    look-requires
+    enum-known-live
+    pack-checked-requires
+    enum-known-why
     same-length
-    returns-2
-    slice-aggregate-fill-3
-    slice-aggregate-fill-4
-    fill-requires-2
-    same-length-2
-    returns-3)
+    returns
+    returns-2)

@@ -1,15 +1,18 @@
 -- The invariant: the commands so far lead from the first to here, by writes of which so many made a difference. Assumes nothing.
-use mathlib.Core.Path.{_≡_, refl}
+use mathlib.Core.Path.{_≡_, refl, sym, ap, _∙_}
 use mathlib.Core.Bool.{true}
-use Prim.Native.Nat.{_+_, _-_, _*_, _/_, _≤_, _<_}
+use Prim.Native.Nat.{ℕ, _+_, _-_, _*_, _/_, _≤_, _<_}
 use native.Mathlib.Omega.{arith}
 use lib.ListN.{length, getD}
 use borrow.Author.Needs.{needs}
 use borrow.Author.Tests.{not-false}
-use Rattle.words.specs.Header.{idOf, maskOf, countOf, stepOf, wordsOf}
+use Rattle.words.specs.Header.{idOf, maskOf, countOf, stepOf, wordsOf, addsOf}
 use Rattle.registers.specs.State.{st}
 use Rattle.commands.specs.Clear.{lastId, clear}
+use Rattle.commands.proofs.Runs.{with-mask}
 use Rattle.commands.proofs.Clearing.{clear-fault}
+use Rattle.commands.proofs.Dropped.{kept-same, with-allowed}
+use Rattle.parts.specs.Progress.{plus}
 use Rattle.parts.specs.Leads.{Leads}
 use Rattle.parts.proofs.Ways.{so-far, command-way, leads-by, leads-none, leads-on}
 use Rattle.parts.proofs.Choices.{whole-facts}
@@ -21,7 +24,7 @@ Inv-commands p cells₀ fog₀ light₀ slots held part at come₀ place₀ firs
     cells fog light come place first id mask step writes i differences =
     (length cells ≡ 768) × (length fog ≡ 128) × (length light ≡ 6144)
     × Leads part p at (st cells₀ fog₀ light₀) (so-far p come place first id mask step writes) i (st cells fog light) differences
-    × (come < 0x100000000)
+    × (come < 0x100000000) × ((k : ℕ) → getD cells k 0 < 0x100000000)
 
 abbrev μ-commands : tie.MeasureT-commands
 μ-commands p cells₀ fog₀ light₀ slots held part at come₀ place₀ first₀ id₀ mask₀ step₀ writes₀ i₀ differences₀
@@ -65,7 +68,8 @@ commands-holds c =
     let a = at-start .args in
     let b = at-start .pre in
     let s = st (a .cells .now) (a .fog .now) (a .light .now) in
-    (b .0 .0 .0, b .0 .0 .1, b .0 .0 .2, leads-none (a .part .now) (a .p) (a .at) s (b .1 .0), search needs)
+    let small : (k : ℕ) → getD (a .cells .now) k 0 < 0x100000000 = λ k. omega (arith, c .before .before .before .slice-known .given k) in
+    (b .0 .0 .0, b .0 .0 .1, b .0 .0 .2, leads-none (a .part .now) (a .p) (a .at) s (b .1 .0), search needs, small)
 
 sub-commands : tie.Need-sub-commands Inv-commands μ-commands
 sub-commands c =
@@ -175,10 +179,9 @@ mul-first c =
 shared-slice-read-first : tie.Need-shared-slice-read-first Inv-commands μ-commands
 shared-slice-read-first c = search needs
 
-add-wrapping-add-u32 : tie.Need-add-wrapping-add-u32 Inv-commands μ-commands
-add-wrapping-add-u32 c =
-    let at-put-command = c .before .before .before .before .before .before .before .before .before in
-    let at-parts = at-put-command .before .before .before .before .before .before .before .before .before in
+added-requires : tie.Need-added-requires Inv-commands μ-commands
+added-requires c κs =
+    let at-parts = c .before .before .before .before .before .before .before .before .before .before .before .before .before .before .before .before .before in
     omega (arith, at-parts .parts .ensures .2)
 
 wrapping-add-u32-requires : tie.Need-wrapping-add-u32-requires Inv-commands μ-commands
@@ -205,6 +208,7 @@ commands-less c =
 
 commands-again : tie.Need-commands-again Inv-commands μ-commands
 commands-again c =
+    let at-cells = c .before .before .before .before .before .before .before .before in
     let at-put-command = c .before .before .before .before .before .before .before .before .before .before in
     let at-if1 = at-put-command .before .before .before .before .before in
     let at-last-id = at-if1 .before .before in
@@ -221,22 +225,31 @@ commands-again c =
     let f = facts at-if1 in
     let b = at-start .pre .1 in
     let w = at-put-command .put-command in
+    let n : c .wrapping-add-u32 .result ≡ plus (o .writes) (addsOf x) =
+    c .wrapping-add-u32 .ensures ∙ ap (plus (o .writes)) (c .before .added .ensures .0 ∙ rw (h .1, h .2)) in
     let even : (countOf x + 3) / 2 * 2 ≡ wordsOf x = omega arith in
     let here : o .i + wordsOf x ≤ length l = omega (arith, f .0, at-commands-test .commands-test .taken) in
     let p = so-far (a .p) (o .come) (o .place) (o .first) (o .id) (o .mask) (o .step) (o .writes) in
     let s = st (a .cells .now) (a .fog .now) (a .light .now) in
-    let t = st (o .cells) (o .fog) (o .light) in (
+    let t = st (o .cells) (o .fog) (o .light) in
+    let d = at-parts .parts .result in
+    let low : d .step ≤ 1 = omega (arith, h .3) in
+    let sure : clear (d .id) (lastId (d .id) (d .count) (d .step)) (d .mask) ≡ true = rw (h .0, h .1, h .2, h .3) (f .2) in
+    let good = with-allowed d (getD l (o .i) 0) l (o .i + 2) low
+    (λ k y z. clear-fault (d .id) (lastId (d .id) (d .count) (d .step)) k (d .mask) sure y z) in
+    let same = kept-same t (record { long = o .inv .0; small = o .inv .5 }) (d .mask) _ (with-mask d (getD l (o .i) 0) l (o .i + 2)) good in (
       omega (arith, o .inv .0, w .kept .0),
       omega (arith, o .inv .1, w .kept .1 .0),
       omega (arith, o .inv .2, w .kept .1 .1 .0),
-      rw (at-words-taken .words-taken .ensures, at-last-id .last-id .ensures, c .wrapping-add-u32 .ensures, h .0, h .1, h .2, h .3, even)
+      rw (at-words-taken .words-taken .ensures, at-last-id .last-id .ensures, n, h .0, h .1, h .2, h .3, even)
           (leads-on l (a .p) p _ (a .at) (o .i) (o .i + wordsOf x) s t _ _ _ _ (o .inv .3)
           (leads-by l p _ (o .i) (o .i + wordsOf x) t _ _ _
           (command-way l (o .i) p (b .1) (b .2) (b .3) (b .4) here (f .1)
           (λ k y z. clear-fault (idOf x) (lastId (idOf x) (countOf x) (stepOf x)) k (maskOf x) (f .2) y z))
-          here (rw (h .0, h .1, h .2, h .3) at (w .ensures .1)) (rw (h .0, h .1, h .2, h .3) at (w .ensures .0)))
+          here (rw (h .0, h .1, h .2, h .3) at (w .ensures .1 ∙ sym (same .1))) (rw (h .0, h .1, h .2, h .3) at (w .ensures .0 ∙ sym (same .0))))
           refl),
       omega (arith, h .2, f .1),
+      λ k. omega (arith, at-cells .slice-known4 .given k),
     )
 
 same-length : tie.Need-same-length Inv-commands μ-commands
@@ -296,7 +309,7 @@ take-commands-spec =
     add-come-2
     mul-first
     shared-slice-read-first
-    add-wrapping-add-u32
+    added-requires
     wrapping-add-u32-requires
     add-i
     commands-less

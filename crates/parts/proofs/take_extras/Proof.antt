@@ -1,9 +1,16 @@
 -- The run is a way. Assumes nothing.
 use mathlib.Core.Path.{_≡_, sym, _∙_}
-use Prim.Native.Nat.{_≤_}
+use Prim.Native.Nat.{_+_, _-_, _≤_}
 use native.Mathlib.Omega.{arith}
+use lib.ListN.{getD}
 use borrow.Author.Tests.{not-false}
 use Rattle.registers.specs.State.{st}
+use Rattle.words.specs.declared.Header.{Header}
+use Rattle.commands.specs.Run.{runWith}
+use Rattle.commands.specs.Clear.{lastId}
+use Rattle.commands.proofs.Runs.{with-mask}
+use Rattle.commands.proofs.Clearing.{clear-fault}
+use Rattle.commands.proofs.Dropped.{Cells32, kept-same, with-allowed}
 use Rattle.parts.proofs.Ways.{run-way, leads-by, leads-none}
 use Rattle.parts.proofs.Choices.{run-facts}
 use borrow.Author.Needs.{needs}
@@ -119,7 +126,8 @@ returns-3 c =
     let at-last-id = at-is-clear .before in
     let at-run-length = at-last-id .before .before in
     let at-if1 = at-run-length .before in
-    let at-start = at-if1 .before .before .before .before .before .before .before .before .before in
+    let at-cells = at-if1 .before .before .before .before .before .before .before .before in
+    let at-start = at-cells .before in
     let a = at-start .args in
     let l = a .part .now in
     let n = at-run-length .run-length .ensures in
@@ -128,10 +136,18 @@ returns-3 c =
     let b = at-start .pre .1 in
     let w = at-put-command .put-command .ensures in
     let sure = sym (at-is-clear .is-clear .ensures) ∙ not-false _ (at-if2 .if2 .left) in
+    let s = st (a .cells .now) (a .fog .now) (a .light .now) in
+    let h : Header =
+    record { id = a .p .id + a .p .step; mask = a .p .mask; count = at-run-length .run-length .result - 1; step = a .p .step } in
+    let good = with-allowed h (getD l (a .at) 0) l (a .at + 1) (f .1)
+    (λ k y z. clear-fault (h .id) (lastId (h .id) (h .count) (h .step)) k (h .mask) (rw (← e) sure) y z) in
+    let cells : Cells32 (a .cells .now) =
+    record { long = at-start .pre .0 .0 .0; small = λ k. omega (arith, at-cells .slice-known .given k) } in
+    let same = kept-same s cells (h .mask) (runWith h (getD l (a .at) 0) l (a .at + 1)) (with-mask h (getD l (a .at) 0) l (a .at + 1)) good in
     rw e
     (leads-by l (a .p) _ (a .at) _ (st (a .cells .now) (a .fog .now) (a .light .now)) _ _ _
     (run-way l _ (a .at) (a .p) (n .0) (omega (arith, n .3, b .0)) (n .2) (n .1) (f .0) (f .1) (f .2) (n .4) (rw (← e) sure))
-    (omega (arith, n .3, b .0)) (w .1) (w .0))
+    (omega (arith, n .3, b .0)) (w .1 ∙ sym (same .1)) (w .0 ∙ sym (same .0)))
 
 pub take-extras-spec : {M : Type 1} → statement M
 take-extras-spec =

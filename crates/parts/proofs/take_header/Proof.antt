@@ -18,8 +18,8 @@ add-q c = search needs
 add-q-2 : tie.Need-add-q-2
 add-q-2 c = search needs
 
-add-wrapping-add-u32 : tie.Need-add-wrapping-add-u32
-add-wrapping-add-u32 c = search needs
+added-requires : tie.Need-added-requires
+added-requires c κs = search needs
 
 wrapping-add-u32-requires : tie.Need-wrapping-add-u32-requires
 wrapping-add-u32-requires c κs = search needs
@@ -41,7 +41,7 @@ returns c =
     let h = at-parts .parts .ensures in
     let f = at-first-fault .first-fault .ensures in
     let w = at-put-sound .put-sound .ensures in (
-      rw (f, c .wrapping-add-u32 .ensures, h .0, h .1, h .2, h .3),
+      rw (f, c .wrapping-add-u32 .ensures, c .before .added .ensures .0, h .0, h .1, h .2, h .3),
       (rw (← (h .0), ← (h .1), ← f) (w .0), rw (← (h .0), ← (h .1), ← f) (w .1)),
     )
 
@@ -54,7 +54,7 @@ take-header-spec =
     put-sound-requires
     add-q
     add-q-2
-    add-wrapping-add-u32
+    added-requires
     wrapping-add-u32-requires
     same-length
     same-length-2

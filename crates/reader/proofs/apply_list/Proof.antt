@@ -1,29 +1,35 @@
--- The invariant: the commands that are left lead from here to the state that the whole list leads to, with what is counted so far, and each
--- has its words. Assumes nothing.
+-- The invariant: the commands that are left lead from here to the state that the whole list leads to, with what is counted so far; each has
+-- its words and is allowed. Assumes nothing.
 use mathlib.Core.Path.{_≡_, refl, sym, ap, _∙_}
 use mathlib.Core.Bool.{true}
 use Prim.Native.Nat.{_+_, _-_, _≤_}
 use native.Mathlib.Omega.{arith}
 use borrow.Author.Needs.{needs}
 use lib.ListN.{length, getD}
-use Rattle.words.specs.Commands.{expand, commands, join, full}
-use Rattle.words.proofs.Laws.{expansion-of, formed-of}
+use Rattle.words.specs.Writes.{kept}
+use Rattle.words.specs.Header.{maskOf}
+use Rattle.words.specs.Commands.{headerAt, expand, commands, join, full}
+use Rattle.words.proofs.Laws.{all-of, expansion-of, formed-of, run-mask}
 use Rattle.registers.specs.State.{st, Lengths}
 use Rattle.registers.specs.Applied.{applyAll, differences}
 use Rattle.commands.specs.Run.{runWith}
 use Rattle.commands.proofs.Runs.{expand-from}
 use Rattle.commands.proofs.Applying.{command-few}
-use Rattle.reader.proofs.Applying.{join-applied, join-applies, join-counted, join-counts, full-next}
+use Rattle.commands.proofs.Dropped.{Cells32, kept-same}
+use Rattle.reader.specs.ListVerdict.{allAllowed}
+use Rattle.reader.proofs.Applying.{join-applied, join-applies, join-counted, join-counts, allowed-next, full-next}
 use Rattle.reader.proofs.apply_list.Statement.{statement}
 use Rattle.reader.proofs.apply_list.Tie as tie
 
 abbrev Inv-loop : tie.InvT-loop
 Inv-loop cells₀ fog₀ light₀ list slots held at₀ n₀ cells fog light at n =
     Lengths cells fog light × (full list (commands list at) ≡ true)
-    × (applyAll (st cells fog light) (join list (commands list at)) ≡ applyAll (st cells₀ fog₀ light₀) (join list (commands list 0)))
+    × (applyAll (st cells fog light) (kept (join list (commands list at)))
+    ≡ applyAll (st cells₀ fog₀ light₀) (kept (join list (commands list 0))))
     × (n ≤ at) × (at ≤ length list)
-    × (n + differences (st cells fog light) (join list (commands list at))
-    ≡ differences (st cells₀ fog₀ light₀) (join list (commands list 0)))
+    × (n + differences (st cells fog light) (kept (join list (commands list at)))
+    ≡ differences (st cells₀ fog₀ light₀) (kept (join list (commands list 0))))
+    × Cells32 cells × (allAllowed (join list (commands list at)) ≡ true)
 
 abbrev μ-loop : tie.MeasureT-loop
 μ-loop cells₀ fog₀ light₀ list slots held at₀ n₀ cells fog light at n = length list - at
@@ -36,8 +42,19 @@ held-table-requires c κs = search needs
 
 loop-holds : tie.Need-loop-holds Inv-loop μ-loop
 loop-holds c =
-    let at-start = c .before .before .before .before .before .before in
-    (at-start .pre .0, sym (formed-of (at-start .args .list .now)) ∙ at-start .pre .1, refl, omega arith, omega arith, omega arith)
+    let at-cells = c .before .before .before .before .before in
+    let at-start = at-cells .before in
+    let l = at-start .args .list .now in
+    let p = at-start .pre in (
+      p .0 .0,
+      sym (formed-of l) ∙ p .1 .0,
+      refl,
+      omega arith,
+      omega arith,
+      omega arith,
+      record { long = p .0 .0 .0; small = λ i. omega (arith, at-cells .slice-known .given i) },
+      rw (all-of l) at (p .1 .1),
+    )
 
 add-parts : tie.Need-add-parts Inv-loop μ-loop
 add-parts c = search needs
@@ -101,7 +118,7 @@ add-n c =
       at-parts .parts .ensures .2,
       o .inv .3,
       o .inv .4,
-      at-start .pre .2,
+      at-start .pre .0 .1,
     )
 
 add-at : tie.Need-add-at Inv-loop μ-loop
@@ -112,6 +129,7 @@ loop-less c = search needs
 
 loop-again : tie.Need-loop-again Inv-loop μ-loop
 loop-again c =
+    let at-cells = c .before .before .before .before in
     let at-apply-run = c .before .before .before .before .before .before in
     let at-words-taken = at-apply-run .before .before .before .before .before .before .before in
     let at-parts = at-words-taken .before in
@@ -130,22 +148,26 @@ loop-again c =
     let next = o .at + at-words-taken .words-taken .result in
     let e : runWith d (getD l (o .at) 0) l (o .at + 2) ≡ expand l (o .at) =
     rw (h .0, h .1, h .2, h .3) (sym (expand-from l (o .at))) in
-    let p = rw e at (at-apply-run .apply-run .ensures) in
+    let v = allowed-next l (o .at) t (o .inv .7) in
+    let same = kept-same s (o .inv .6) (maskOf (headerAt l (o .at))) (expand l (o .at)) (run-mask l (o .at) _ 0 _) (v .0) in
+    let p = rw (e, ← (same .0), ← (same .1)) at (at-apply-run .apply-run .ensures) in
     let n = full-next l (o .at) t (o .inv .1) in
     let few = command-few s d (getD l (o .at) 0) l (o .at + 2) in
-    let m : differences s (join l (commands l (o .at)))
-    ≡ differences s (expand l (o .at)) + differences (applyAll s (expand l (o .at))) (join l (commands l next)) =
+    let m : differences s (kept (join l (commands l (o .at))))
+    ≡ differences s (kept (expand l (o .at))) + differences (applyAll s (kept (expand l (o .at)))) (kept (join l (commands l next))) =
     rw (w, h .2) (join-counts l (o .at) s t) in
     let f : full l (commands l next) ≡ true = rw (w, h .2) (n .1) in
-    let j : applyAll (applyAll s (expand l (o .at))) (join l (commands l next))
-    ≡ applyAll (st (a .cells .now) (a .fog .now) (a .light .now)) (join l (commands l 0)) =
+    let j : applyAll (applyAll s (kept (expand l (o .at)))) (kept (join l (commands l next)))
+    ≡ applyAll (st (a .cells .now) (a .fog .now) (a .light .now)) (kept (join l (commands l 0))) =
     rw (w, h .2) (sym (join-applies l (o .at) s t) ∙ o .inv .2) in (
       (omega (arith, k .0), omega (arith, k .1 .0), omega (arith, k .1 .1 .0)),
       f,
-      ap (λ x. applyAll x (join l (commands l next))) (p .1) ∙ j,
+      ap (λ x. applyAll x (kept (join l (commands l next)))) (p .1) ∙ j,
       omega (arith, o .inv .3, at-apply-run .apply-run .ensures .0, few, w),
       omega (arith, n .0, w, h .2),
       rw (p .1) (omega (arith, o .inv .5, p .0, m)),
+      record { long = omega (arith, k .0); small = λ i. omega (arith, at-cells .slice-known4 .given i) },
+      rw (w, h .2) (v .1),
     )
 
 same-length : tie.Need-same-length Inv-loop μ-loop

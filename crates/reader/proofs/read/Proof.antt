@@ -70,7 +70,7 @@ apply-list-requires c κs =
     let s = st (a .cells .now) (a .fog .now) (a .light .now) in
     let k = lengths s (sym (at-is-sized .is-sized .ensures) ∙ not-false _ (at-if1 .if1 .left)) in
     let v = sym (at-judge-list .judge-list .ensures) ∙ ap told (at-writes .writes .given .1) in
-    (k, verdict-accepted (a .list .now) _ v .0, at-if2 .if2 .left)
+    let w = verdict-accepted (a .list .now) _ v in ((k, at-if2 .if2 .left), (w .0, w .1))
 
 same-length-7 : tie.Need-same-length-7
 same-length-7 c = search needs
