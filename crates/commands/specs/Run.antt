@@ -1,5 +1,5 @@
 -- The writes of a command whose values stand at any place, and not after its header. Not of the document: law `expand-from` says that the
--- expansion of a command in a list is such a run.
+-- writes of a command in a list are such a run.
 use mathlib.Core.List.{List, [], _∷_}
 use Prim.Native.Nat.{ℕ, zero, suc, _+_}
 use lib.ListN.{getD}

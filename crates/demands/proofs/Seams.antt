@@ -4,7 +4,7 @@
 use mathlib.Core.Path.{_≡_, refl, _∙_}
 use mathlib.Core.Bool.{Bool, true, false}
 use mathlib.Core.List.{List, [], _∷_, _++_, append-nil}
-use Prim.Native.Nat.{ℕ, _+_, _*_, _%_, _≤_}
+use Prim.Native.Nat.{ℕ, suc, _+_, _*_, _%_, _≤_}
 use native.Mathlib.Omega.{arith}
 use lib.ListN.{length, length-append}
 use Rattle.numbers.specs.Pick.{pick}
@@ -140,6 +140,24 @@ seams-filled a rest l n s =
     let even = joined-even rs in
     let legal = legal-judged l (length (joinedRun rs)) (s .accepted) .0 in
     omega (arith, seams a rest l n s, filled-length (joinedLists rs) even, even, legal)
+
+-- each part filled by itself: at most four words a seam more than any accepted list that says the run, whatever the seams
+loose-most : (a : List Write) (rest : List (List Write)) → loose a rest ≤ length rest
+loose-most a [] = omega arith
+loose-most a (b ∷ rest) = go (apart a b) (loose-most b rest)
+  where
+    go : (t : Bool) → loose b rest ≤ length rest → pick t 0 1 + loose b rest ≤ suc (length rest)
+    go true h = omega arith
+    go false h = omega arith
+
+pub filled-seams : (a : List Write) (rest : List (List Write)) (l : List ℕ) → EachPart (a ∷ rest) → EachSome rest
+    → Says (joinedRun (a ∷ rest)) l → length (filledLists (a ∷ rest)) ≤ length l + 4 * length rest
+filled-seams a rest l p n s =
+    let rs = a ∷ rest in
+    let w = length (joinedRun rs) in
+    let legal = legal-judged l w (s .accepted) .0 in
+    let own = legal-judged (filledLists rs) w (parts-say rs p .accepted) .0 in
+    omega (arith, seams a rest l n s, pairs-bound rs, loose-most a rest, legal, own)
 
 -- so where no seam counts, the parts' lists, joined and filled once, are as short as any that says the run: its length is known, not only
 -- bounded

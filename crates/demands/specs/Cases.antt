@@ -148,10 +148,11 @@ cases =
     ∷ case (packing (0x41 ∷ 0x41 ∷ 0x42 ∷ []) (1 ∷ 2 ∷ 3 ∷ [])) (0 ∷ 8 ∷ 1 ∷ 0x001F0041 ∷ 2 ∷ 0 ∷ 3 ∷ 0x000F0042 ∷ 0 ∷ 0 ∷ 9 ∷ [])
     -- of request 3: space without the pair's two words is none
     ∷ case (packingInto 7 (0x41 ∷ 0x41 ∷ 0x42 ∷ []) (replicate 3 15) (1 ∷ 2 ∷ 3 ∷ [])) (10 ∷ 8 ∷ replicate 7 9)
-    -- a write of mask 0 parts nothing, and alone it gives the empty list; its index counts
+    -- a write of mask 0 parts nothing, and alone it gives the empty list; its index counts, and it is checked itself
     ∷ case (packingInto 5 (0x41 ∷ 0x99 ∷ 0x42 ∷ []) (15 ∷ 0 ∷ 15 ∷ []) (1 ∷ 2 ∷ 3 ∷ [])) (0 ∷ 4 ∷ 1 ∷ 0x801F0041 ∷ 3 ∷ 0 ∷ 9 ∷ [])
     ∷ case (packingInto 1 (0x41 ∷ 0x42 ∷ []) (0 ∷ 0 ∷ []) (1 ∷ 2 ∷ [])) (0 ∷ 0 ∷ 9 ∷ [])
     ∷ case (packingInto 1 (0x41 ∷ 0x300 ∷ []) (0 ∷ 15 ∷ []) (1 ∷ 2 ∷ [])) (3 ∷ 1 ∷ 9 ∷ [])
+    ∷ case (packingInto 1 (0x41 ∷ 0x300 ∷ []) (15 ∷ 0 ∷ []) (1 ∷ 2 ∷ [])) (3 ∷ 1 ∷ 9 ∷ [])
     -- a list of two words is 15, not 2, and of six words too, whatever its commands
     ∷ case (reading 0x001F0041 0) (15 ∷ 0 ∷ [])
     ∷ case (reading 0x000F0300 4) (15 ∷ 0 ∷ [])

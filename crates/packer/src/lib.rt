@@ -134,7 +134,7 @@ fn all_live(ids: &[u32], masks: &[u32], values: &[u32]) -> bool
     all_right(ids, masks)
 }
 
-// What packing goes by: writes that are not refused, and whether none of them is known to have mask 0.
+// What packing goes by: writes that are not refused, and whether it is known that none of them has mask 0.
 enum Looked {
     Fine(bool),
     Refused(Refusal),

@@ -36,7 +36,8 @@ fn told(number: u32, value: usize) -> u64
     number as u64 * 0x100000000 + value as u64 % 0x100000000
 }
 
-// A list read into a state: the number of its writes; in `differences` how many of them made a difference, untouched on a refusal.
+// A list read into a state: the number of writes in its expansion; in `differences` how many of them made a difference, untouched on a
+// refusal.
 #[no_mangle]
 pub extern "C" fn pica_read(
     cells: &mut [u32],
@@ -152,7 +153,7 @@ pub extern "C" fn pica_feed(
     told_going(reader, went)
 }
 
-// The list is closed: the number of its writes; in `differences` how many of them made a difference, untouched on a refusal.
+// The list is closed: the number of writes in its expansion; in `differences` how many of them made a difference, untouched on a refusal.
 #[no_mangle]
 pub extern "C" fn pica_close(
     cells: &mut [u32],

@@ -172,8 +172,8 @@ fn verdict_so_far(p: Progress) -> ListVerdict
     judged_so_far(p)
 }
 
-// What a close tells: the number of writes in the expansion and how many of them made a difference, or a refusal; and the progress to go on from, which is
-// fresh after any verdict but 6.
+// What a close tells: the number of writes in the expansion and how many of them made a difference, or a refusal; and the progress to go on
+// from, which is fresh after any verdict but 6.
 pub struct Closed {
     pub verdict: Reading,
     pub progress: Progress,

@@ -1,5 +1,5 @@
 -- The verdict on a list: 15; then commands in order, each 2 first and then its writes; the first write at fault ends the reading. Writes
--- with mask 0 are checked like any others, and not counted. 1 isn't tested here, but before, by whoever goes by a verdict.
+-- with mask 0 are checked like any others, and not counted. 1 isn't tested here: whoever reads a list tests it before.
 use mathlib.Core.Bool.{Bool, true, false, _&&_}
 use mathlib.Core.List.{List, [], _∷_}
 use Prim.Native.Nat.{ℕ, _+_}

@@ -75,7 +75,7 @@ fn judge_commands(list: &[u32]) -> ListVerdict
     }
 }
 
-// The verdict on a list: 15 where its words aren't a multiple of 4, else the one on its commands.
+// The verdict on a list of any length, over 65,536 words too: 15 where its words aren't a multiple of 4, else the one on its commands.
 pub fn judge_list(list: &[u32]) -> ListVerdict
     ensures { λ r. ⌜ told r ≡ verdict (now (list .entry)) ⌝ }
 {

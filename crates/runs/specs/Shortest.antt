@@ -1,4 +1,5 @@
--- What is asked of the list written, as a statement about the lists that the reader accepts.
+-- What is asked of the list written: a statement about the lists that the reader accepts, and, on which of them it is, about lists before
+-- filling.
 use mathlib.Core.Path.{_≡_}
 use mathlib.Core.Bool.{true}
 use mathlib.Core.List.{List, [], _∷_, map}
