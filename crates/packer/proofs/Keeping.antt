@@ -2,7 +2,7 @@
 use mathlib.Core.Path.{_≡_, refl, sym, ap, _∙_}
 use mathlib.Core.Bool.{true}
 use mathlib.Core.List.{List, _∷_}
-use Prim.Native.Nat.{ℕ, zero, suc, _+_, _-_, _≤_, _<_}
+use Prim.Native.Nat.{ℕ, suc, _+_, _-_, _≤_, _<_}
 use native.Mathlib.Numerals.{add-one}
 use native.Mathlib.Omega.{arith}
 use lib.ListN.{length, getD, take, drop, set, length-set, length-drop, drop-of-length-le}
@@ -17,10 +17,6 @@ use Rattle.runs.proofs.Writes.{writes-length, writes-at}
 use Rattle.packer.specs.Checks.{wrong}
 use Rattle.packer.specs.Keeping.{Clear, Keeps}
 use Rattle.packer.proofs.Checks.{wrong-none, wrong-end}
-
-pub positive : (n : ℕ) → (n ≡ 0 → ⊥) → 1 ≤ n
-positive zero h = absurd (h refl)
-positive (suc n) h = omega arith
 
 -- NONE REFUSED AND NONE DROPPED, write by write
 module _ (is ms vs : List ℕ) (i : ℕ) (e : level is ms vs ≡ true) where

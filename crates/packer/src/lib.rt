@@ -29,14 +29,14 @@ pub enum Checked {
     Refused(Refusal),
 }
 
-// 1 for a write that is refused or has mask 0, else 0.
+// 1 for a write that is refused or has mask 0, else 0. One test asks for both ends of the masks.
 fn counted(id: u32, mask: u32) -> u32
     ensures { λ r. ⌜ (r ≤ 1) × (r ≡ 0 → (wrong id mask ≡ 0) × (1 ≤ mask)) ⌝ }
 {
-    if mask == 0 {
+    if 14 < std::num::wrapping_sub_u32(mask, 1) {
         return 1;
     }
-    let why = wrong_with(id, mask);
+    let why = words::fault(id, mask);
     if why == 0 {
         return 0;
     }
@@ -81,75 +81,53 @@ fn all_right(ids: &[u32], masks: &[u32]) -> bool
     true
 }
 
-// What is wrong with the writes: 7, 8, or the first write that is refused, with 9, 3, 4 or 5 and its index.
-pub fn check(ids: &[u32], masks: &[u32], values: &[u32]) -> Checked
-    ensures { λ r. ⌜ found r ≡ checkAnswer (now (ids .entry)) (now (masks .entry)) (now (values .entry)) ⌝ }
+// What a look at the writes says: they are refused; or they aren't, and whether it is known that none of them has mask 0.
+enum Looked {
+    Fine(bool),
+    Refused(Refusal),
+}
+
+// Looks at the writes: 7, 8, or the first write that is refused, with 9, 3, 4 or 5 and its index. Most runs are passed at once.
+fn look(ids: &[u32], masks: &[u32], values: &[u32]) -> Looked
+    ensures { λ r. ⌜ Looks (now (ids .entry)) (now (masks .entry)) (now (values .entry)) r ⌝ }
 {
     let n = ids.len();
     if !((n == masks.len()) & (n == values.len())) {
-        return Checked::Refused(Refusal {
+        return Looked::Refused(Refusal {
             number: words::LENGTHS_DIFFER,
             place: 0,
         });
     }
     if 4096 < n {
-        return Checked::Refused(Refusal {
+        return Looked::Refused(Refusal {
             number: words::TOO_MANY_WRITES,
             place: 0,
         });
     }
     if all_right(ids, masks) {
-        return Checked::Fine;
+        return Looked::Fine(true);
     }
     let mut i = 0;
     while i < n {
         let why = wrong_with(ids[i], masks[i]);
         if why != 0 {
-            return Checked::Refused(Refusal {
+            return Looked::Refused(Refusal {
                 number: why,
                 place: i,
             });
         }
         i += 1;
     }
-    Checked::Fine
+    Looked::Fine(false)
 }
 
-// Whether it is seen at once that no write is refused and none has mask 0, of buffers whose lengths are right too.
-fn all_live(ids: &[u32], masks: &[u32], values: &[u32]) -> bool
-    ensures { λ r. ⌜
-        (r ≡ true
-        → (checkAnswer (now (ids .entry)) (now (masks .entry)) (now (values .entry)) ≡ answered 0)
-        × (kept (writes (now (ids .entry)) (now (masks .entry)) (now (values .entry)))
-        ≡ writes (now (ids .entry)) (now (masks .entry)) (now (values .entry))))
-        ⌝ }
+// What is wrong with the writes: 7, 8, or the first write that is refused, with 9, 3, 4 or 5 and its index.
+pub fn check(ids: &[u32], masks: &[u32], values: &[u32]) -> Checked
+    ensures { λ r. ⌜ found r ≡ checkAnswer (now (ids .entry)) (now (masks .entry)) (now (values .entry)) ⌝ }
 {
-    let n = ids.len();
-    if !((n == masks.len()) & (n == values.len())) {
-        return false;
-    }
-    if 4096 < n {
-        return false;
-    }
-    all_right(ids, masks)
-}
-
-// What packing goes by: writes that are not refused, and whether it is known that none of them has mask 0.
-enum Looked {
-    Fine(bool),
-    Refused(Refusal),
-}
-
-// Looks at the writes. Most runs are passed at once, and the others checked.
-fn look(ids: &[u32], masks: &[u32], values: &[u32]) -> Looked
-    ensures { λ r. ⌜ Looks (now (ids .entry)) (now (masks .entry)) (now (values .entry)) r ⌝ }
-{
-    if all_live(ids, masks, values) {
-        return Looked::Fine(true);
-    }
-    match check(ids, masks, values) {
-        Checked::Fine => Looked::Fine(false),
-        Checked::Refused(why) => Looked::Refused(why),
+    match look(ids, masks, values) {
+        Looked::Fine(_) => Checked::Fine,
+        Looked::Refused(why) => Checked::Refused(why),
     }
 }
 

@@ -75,7 +75,11 @@ fn limit() {
     show::in_parts(b"65,536 words", &most, &[], &[], &[]);
     show::in_parts(b"one word more", &most, &[0], &[0, 0], &[]);
     show::in_parts(b"a fault before them", &[1, 0x000F0300], &most, &[], &[]);
-    // 02: "refusal 15, place 0, tested after 1 and before any command, also at the close"
+}
+
+// 02: "refusal 15, place 0, tested after 1 and before any command, also at the close"
+fn lengths() {
+    let most = [0u32; 65536];
     show::in_parts(b"two words more", &most, &[0], &[0], &[]);
     show::in_parts(
         b"two words less",
@@ -91,4 +95,5 @@ pub(crate) fn all() {
     cuttings();
     refusals();
     limit();
+    lengths();
 }

@@ -14,10 +14,18 @@ fn single_writes() {
         2,
         0x71,
     );
+}
+
+// where no held bit becomes another
+fn beside_the_held() {
+    let held = [0x1F71, 0x000F0107, 0, 0];
     show::written_after(b"bytes without held bits", &held, 0x107, 12, 0xFFFF0000);
     show::written_after(b"bits beside the held ones", &held, 0x107, 15, 0xFFFFFFFF);
     show::written_after(b"mask 0", &held, 0x107, 0, 0);
     show::written_after(b"an id that isn't held", &held, 0x11C, 15, 1);
+}
+
+fn indices() {
     show::written_after(
         b"an index with its own value",
         &[5, 0x000F00E6, 0, 0],
@@ -32,7 +40,7 @@ fn single_writes() {
         15,
         6,
     );
-    show::written_after(b"refused", &held, 0x23C, 15, 0);
+    show::written_after(b"refused", &[], 0x23C, 15, 0);
 }
 
 // "A port data write counts, since its index always moves"
@@ -61,6 +69,10 @@ fn lists() {
         &[1, 0x802F0041, 2, 3],
         &[1, 0x802F0041, 2, 3],
     );
+}
+
+// to one id
+fn values() {
     show::counts_after(b"one value twice", &[], &[5, 0x001F0041, 5, 0]);
     show::counts_after(
         b"there and back",
@@ -88,7 +100,10 @@ fn refusals() {
 pub(crate) fn all() {
     show::group(b"differences");
     single_writes();
+    beside_the_held();
+    indices();
     ports();
     lists();
+    values();
     refusals();
 }

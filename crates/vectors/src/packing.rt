@@ -110,6 +110,9 @@ fn runs() {
         &[0x41, 0x42, 0x43, 0x43, 0x43],
         &[1, 2, 3, 4, 5],
     );
+}
+
+fn short_runs() {
     run(b"no write", &[0; 0], &[0; 0]);
     run(b"a lone write", &[0x107], &[0x1F71]);
     // refused: 3 at its index, and lengths that differ
@@ -144,7 +147,10 @@ fn dropped() {
         &[1, 2, 3],
     );
     masked(b"mask 0 alone", &[0x41, 0x42], &[0, 0], &[1, 2]);
-    // "the index in a packer's refusal .. still count every write given"
+}
+
+// "still checked", and "the index in a packer's refusal .. still count every write given"
+fn still_checked() {
     masked(b"mask 0, and then 300", &[0x41, 0x300], &[0, 15], &[1, 2]);
     masked(b"300 with mask 0", &[0x41, 0x300], &[15, 0], &[1, 2]);
     masked(b"23C with mask 0", &[0x41, 0x23C], &[15, 0], &[1, 2]);
@@ -182,7 +188,9 @@ fn rising_lengths() {
 pub(crate) fn all() {
     show::group(b"packing");
     runs();
+    short_runs();
     dropped();
+    still_checked();
     equal_lengths();
     rising_lengths();
 }
