@@ -27,10 +27,12 @@ struct library {
 
 extern const struct library ours, plain;
 
-/* Room for one word too many, and for one write. */
+/* Room for four words too many, and for one write. */
+enum { LONGEST = PICA_LIST_LENGTH_MOST + 4 };
+
 struct list {
     size_t length;
-    uint32_t words[PICA_LIST_LENGTH_MOST + 1];
+    uint32_t words[LONGEST];
 };
 
 struct run {
@@ -60,9 +62,11 @@ void one_held(struct list *list, size_t words);
 void one_unheld(struct list *list, size_t words);
 void long_mixed(struct list *list, size_t words);
 void capture(struct list *list, size_t words);
+void filled_capture(struct list *list, size_t words);
 void refused_at_last(struct list *list, size_t words);
 void held_writes(struct run *run, size_t writes);
 void few_ids(struct run *run, size_t writes);
+void eighth_idle(struct run *run, size_t writes);
 void rising_ids(struct run *run, size_t writes);
 void equal_ids(struct run *run, size_t writes);
 void apart_ids(struct run *run, size_t writes);
@@ -71,11 +75,12 @@ void six_at_work(uint32_t *cells);
 
 /* workloads.c: what is measured. Both versions are handed the same, and each leaves what it leaves in a side of its own. */
 enum { CALLS = 4096 }; /* of a round, where a call is a decoding or a fragment */
+enum { SPACE = 2 * PICA_RUN_LENGTH_MOST + 2 }; /* for any list: two words a write, and two */
 
 struct side {
     struct state state, spare;
     uint32_t reader[PICA_READER];
-    uint32_t space[2 * PICA_RUN_LENGTH_MOST];
+    uint32_t space[SPACE];
     uint32_t ids[PICA_LIST_LENGTH_MOST], masks[PICA_LIST_LENGTH_MOST], values[PICA_LIST_LENGTH_MOST];
     uint32_t fields[PICA_FIELDS_LENGTH];
     uint32_t stored[CALLS][PICA_STORED_LENGTH];
@@ -102,6 +107,16 @@ extern const size_t workload_count;
 /* Makes what the workload hands in, and answers how many words, writes, states or fragments make a round. */
 size_t prepared(const struct workload *w);
 void work(const struct workload *w, const struct library *l, struct side *s, unsigned times);
+
+/* cases.c: random lists, runs and states. */
+void lengths(size_t to[3]);
+uint32_t edge_id(void);
+uint32_t edge_mask(uint32_t id);
+void random_list(struct list *list);
+int has_mask_0(const struct list *list);
+void restate(struct list *list, const uint32_t *cells);
+void random_run(struct run *run);
+void random_state(struct state *s, uint32_t given[PICA_GIVEN_LENGTH]);
 
 /* compare.c: how many random cases both answered alike; 0 where one differed, which is then shown. */
 unsigned compare_random(void);

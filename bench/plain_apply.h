@@ -122,7 +122,8 @@ static inline uint32_t put_few(uint32_t *restrict cells, uint32_t id, uint32_t b
     return made;
 }
 
-/* A command whose words are all here. Its first value stands before its header, the others after it. */
+/* A command whose words are all here. Its first value stands before its header, the others after it. With mask 0 no bit can change,
+   and no branch asks for it. */
 static inline uint32_t apply_command(uint32_t *restrict cells, uint32_t *restrict fog, uint32_t *restrict light, struct command c,
                                      const uint32_t *restrict at) {
     uint32_t bytes = spread(c.mask), made;

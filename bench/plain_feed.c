@@ -32,7 +32,7 @@ static inline const uint32_t *whole_commands(struct progress *p, uint32_t *restr
         struct command c = command_of(at[1]);
         if (end - at < (ptrdiff_t)c.words || can_fail(c.id, c.id + c.step * c.count, c.mask)) break;
         made += apply_command(cells, fog, light, c, at);
-        writes += c.count + 1;
+        writes += writes_of(c);
         last = at;
         at += c.words;
     }
@@ -91,7 +91,7 @@ static inline void header(struct progress *p, uint32_t *restrict cells, uint32_t
     p->step = c.step;
     p->left = c.count;
     p->pad = c.count & 1;
-    p->writes += c.count + 1;
+    p->writes += writes_of(c);
     p->come++;
     put_sound(p, cells, fog, light, p->first);
 }
@@ -138,7 +138,8 @@ uint64_t plain_feed(uint32_t *cells, size_t cells_length, uint32_t *fog, size_t 
 }
 
 static uint64_t verdict(struct progress p) {
-    if (p.come > PICA_LIST_LENGTH_MOST) return plain_refused(PICA_LIST_TOO_LONG, 0);
+    uint64_t number = refused_length(p.come);
+    if (number) return number;
     if (p.left | p.pad | p.begun) return plain_refused(PICA_WORDS_MISSING, p.place);
     if (p.fault) return plain_refused(p.fault == 3 || p.fault == 4 ? p.fault : PICA_PORT_MASK, p.place);
     return p.writes;

@@ -32,7 +32,6 @@ static uint32_t apply(uint32_t *restrict cells, uint32_t *restrict fog, uint32_t
 uint64_t plain_read(uint32_t *cells, size_t cells_length, uint32_t *fog, size_t fog_length, uint32_t *light, size_t light_length,
                     const uint32_t *list, size_t list_length, uint32_t differences[1]) {
     if (!plain_is_sized(cells_length, fog_length, light_length)) return plain_refused(PICA_BUFFER_LENGTH, 0);
-    if (list_length > PICA_LIST_LENGTH_MOST) return plain_refused(PICA_LIST_TOO_LONG, 0);
     uint64_t answer = judge(list, list_length);
     if (pica_number(answer) == 0) differences[0] = apply(cells, fog, light, list, list + list_length);
     return answer;

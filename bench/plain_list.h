@@ -30,16 +30,26 @@ static inline uint32_t fault_of(struct command c) {
     }
 }
 
-/* The number of writes, or the refusal. */
+/* The refusal of a list by its length, 0 where it is a legal one. */
+static inline uint64_t refused_length(size_t length) {
+    if (length > PICA_LIST_LENGTH_MOST) return plain_refused(PICA_LIST_TOO_LONG, 0);
+    return length % 4 ? plain_refused(PICA_ILLEGAL_LENGTH, 0) : 0;
+}
+
+/* How many writes of a command belong to an expansion: with mask 0 none does; no branch. */
+static inline uint32_t writes_of(struct command c) { return c.mask ? c.count + 1 : 0; }
+
+/* The number of writes, or the refusal. Every command has an even number of words, so that two at least are left for the next one. */
 static inline uint64_t judge(const uint32_t *list, size_t length) {
     const uint32_t *at = list;
     size_t writes = 0;
+    uint64_t number = refused_length(length);
+    if (number) return number;
     for (size_t left = length; left > 0;) {
-        if (left < 2) return plain_refused(PICA_WORDS_MISSING, (uint32_t)(at - list));
         struct command c = command_of(at[1]);
         if (left < c.words) return plain_refused(PICA_WORDS_MISSING, (uint32_t)(at - list));
         if (can_fail(c.id, c.id + c.step * c.count, c.mask)) return plain_refused(fault_of(c), (uint32_t)(at - list));
-        writes += c.count + 1;
+        writes += writes_of(c);
         at += c.words;
         left -= c.words;
     }

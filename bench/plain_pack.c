@@ -12,14 +12,28 @@ static uint64_t refused(const uint32_t *ids, const uint32_t *masks) {
     }
 }
 
-/* All tests of all writes are joined without a branch, so that the loop may go by several writes at once. */
-static int any_fails(const uint32_t *restrict ids, const uint32_t *restrict masks, size_t count) {
+/* Whether a write is at fault, or has a mask below the least one. All tests of all writes are joined without a branch, so that the loop may
+   go by several writes at once. */
+static inline int any_fails(const uint32_t *restrict ids, const uint32_t *restrict masks, size_t count, uint32_t least) {
     uint32_t fails = 0;
     for (size_t k = 0; k < count; k++) {
-        uint32_t eight = ids[k] & ~UINT32_C(7);
-        fails |= (masks[k] > 15) | (ids[k] > 0x2FF) | ((ids[k] | 1) == 0x23D) | (((eight == 0xE8) | (eight == 0x1C8)) & (masks[k] != 15));
+        uint32_t eight = ids[k] & ~UINT32_C(7), port = (eight == 0xE8) | (eight == 0x1C8);
+        fails |= (masks[k] - least > 15 - least) | (ids[k] > 0x2FF) | ((ids[k] | 1) == 0x23D) | (port & (masks[k] != 15));
     }
     return fails != 0;
+}
+
+/* The writes that are left when those with mask 0 are dropped, and how many: what is dropped stands where the next one goes; no branch. */
+static uint32_t keep(const uint32_t *restrict ids, const uint32_t *restrict masks, const uint32_t *restrict values, uint32_t count,
+                     uint32_t *restrict to_ids, uint32_t *restrict to_masks, uint32_t *restrict to_values) {
+    uint32_t kept = 0;
+    for (uint32_t k = 0; k < count; k++) {
+        to_ids[kept] = ids[k];
+        to_masks[kept] = masks[k];
+        to_values[kept] = values[k];
+        kept += masks[k] != 0;
+    }
+    return kept;
 }
 
 /* How a write goes with the next one: their ids are equal, rise, or neither; a difference of masks is neither. */
@@ -44,12 +58,12 @@ static void find_links(const uint32_t *restrict ids, const uint32_t *restrict ma
  * As long as a run isn't longer than a command, all its writes reach to the same end, so that what counts there stays in registers. A run
  * of one or of two costs two words more than what follows its first write: a second write goes in the padding's place, or it is cut off.
  */
-static uint32_t plan(const uint8_t *restrict links, uint32_t count, uint16_t *restrict take) {
+static uint32_t plan(const uint8_t *restrict links, size_t count, uint16_t *restrict take) {
     uint16_t costs[PICA_RUN_LENGTH_MOST];
     uint32_t next = 0, after = 0;                     /* the costs from the next write on, and from the one after it */
     /* of the run that begins here: its writes, the cost after it, whether it may end one earlier */
     uint32_t kind = APART, run = 0, end = 0, cut = 0;
-    for (uint32_t k = count; k-- > 0;) {
+    for (size_t k = count; k-- > 0;) {
         uint32_t link = links[k], joins = link != APART, goes_on = joins & (link == kind);
         run = 1 + (goes_on ? run : joins);
         end = goes_on ? end : after;
@@ -81,7 +95,7 @@ static void lay_out(const uint32_t *restrict ids, const uint32_t *restrict masks
             to[2] = values[k + 1];
             to[3] = writes == 3 ? values[k + 2] : 0;
         } else {
-            for (uint32_t j = 1; j < writes; j++) to[j + 1] = values[k + j];
+            for (size_t j = 1; j < writes; j++) to[j + 1] = values[k + j];
             if (writes % 2 == 0) to[writes + 1] = 0;
         }
         k += writes;
@@ -89,16 +103,24 @@ static void lay_out(const uint32_t *restrict ids, const uint32_t *restrict masks
     }
 }
 
+/* Of a run with mask 0 in it the other writes are first copied together. The pair stands behind a list whose words are no multiple of 4. */
 uint64_t plain_pack(const uint32_t *ids, size_t ids_length, const uint32_t *masks, size_t masks_length, const uint32_t *values,
                     size_t values_length, uint32_t *space, size_t space_length) {
-    if (ids_length != masks_length || ids_length != values_length) return plain_refused(PICA_LENGTHS_DIFFER, 0);
-    if (ids_length > PICA_RUN_LENGTH_MOST) return plain_refused(PICA_TOO_MANY_WRITES, 0);
-    if (any_fails(ids, masks, ids_length)) return refused(ids, masks);
+    uint32_t kept_ids[PICA_RUN_LENGTH_MOST], kept_masks[PICA_RUN_LENGTH_MOST], kept_values[PICA_RUN_LENGTH_MOST];
     uint8_t links[PICA_RUN_LENGTH_MOST];
     uint16_t take[PICA_RUN_LENGTH_MOST];
-    find_links(ids, masks, ids_length, links);
-    uint32_t words = plan(links, (uint32_t)ids_length, take);
-    if (words > space_length) return plain_refused(PICA_NO_ROOM, words);
-    lay_out(ids, masks, values, (uint32_t)ids_length, links, take, space, words);
-    return words;
+    if (ids_length != masks_length || ids_length != values_length) return plain_refused(PICA_LENGTHS_DIFFER, 0);
+    if (ids_length > PICA_RUN_LENGTH_MOST) return plain_refused(PICA_TOO_MANY_WRITES, 0);
+    uint32_t count = (uint32_t)ids_length;
+    if (any_fails(ids, masks, count, 1)) {
+        if (any_fails(ids, masks, count, 0)) return refused(ids, masks);
+        count = keep(ids, masks, values, count, kept_ids, kept_masks, kept_values);
+        ids = kept_ids, masks = kept_masks, values = kept_values;
+    }
+    find_links(ids, masks, count, links);
+    uint32_t words = plan(links, count, take), filled = (words + 3) & ~UINT32_C(3);
+    if (filled > space_length) return plain_refused(PICA_NO_ROOM, filled);
+    lay_out(ids, masks, values, count, links, take, space, words);
+    if (words < filled) space[words] = space[words + 1] = 0;
+    return filled;
 }

@@ -37,11 +37,13 @@ static inline void put_extra(struct places p, size_t to, struct command c, const
 static void put(struct places p, const uint32_t *restrict at, size_t writes) {
     for (size_t to = 0; to < writes;) {
         struct command c = command_of(at[1]);
-        p.ids[to] = c.id;
-        p.masks[to] = c.mask;
-        p.values[to] = at[0];
-        put_extra(p, to + 1, c, at + 2, writes);
-        to += c.count + 1;
+        if (c.mask) {
+            p.ids[to] = c.id;
+            p.masks[to] = c.mask;
+            p.values[to] = at[0];
+            put_extra(p, to + 1, c, at + 2, writes);
+            to += c.count + 1;
+        }
         at += c.words;
     }
 }
@@ -49,7 +51,6 @@ static void put(struct places p, const uint32_t *restrict at, size_t writes) {
 uint64_t plain_writes(const uint32_t *list, size_t list_length, uint32_t *ids, size_t ids_length, uint32_t *masks, size_t masks_length,
                       uint32_t *values, size_t values_length) {
     if (ids_length != masks_length || ids_length != values_length) return plain_refused(PICA_LENGTHS_DIFFER, 0);
-    if (list_length > PICA_LIST_LENGTH_MOST) return plain_refused(PICA_LIST_TOO_LONG, 0);
     uint64_t answer = judge(list, list_length);
     if (pica_number(answer)) return answer;
     if (pica_value(answer) > ids_length) return plain_refused(PICA_TOO_FEW_PLACES, pica_value(answer));

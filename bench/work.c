@@ -1,3 +1,5 @@
+#include <string.h>
+
 #include "bench.h"
 
 /* LISTS: each is filled up to `words` words; the longest command has 258. */
@@ -46,10 +48,17 @@ void long_unheld(struct list *list, size_t words) {
     pad(list, words);
 }
 
-/* As many writes as the words allow, to one id. */
+/* Parameter 0 and header 0: a command that fills a list. */
+static void pair(struct list *list) {
+    list->words[list->length] = list->words[list->length + 1] = 0;
+    list->length += 2;
+}
+
+/* As many writes as the words allow, to one id, and a pair. */
 void one_command(struct list *list, size_t words) {
     list->length = 0;
-    command(list, 0x2C1, 15, (uint32_t)words - 2, 0);
+    command(list, 0x2C1, 15, (uint32_t)words - 4, 0);
+    pair(list);
 }
 
 /* A whole command of values to one register, then to another. */
@@ -99,6 +108,22 @@ void capture(struct list *list, size_t words) {
     pad(list, words);
 }
 
+/* The same, with a pair after each fourth command. */
+void filled_capture(struct list *list, size_t words) {
+    static struct list whole;
+    uint32_t number = 0, count;
+    capture(&whole, words);
+    list->length = 0;
+    for (size_t at = 0; at < whole.length; at += count) {
+        count = ((whole.words[at + 1] >> 20 & 255) + 3) & ~UINT32_C(1);
+        if (left(list, words) < count + 2) break;
+        memcpy(&list->words[list->length], &whole.words[at], count * sizeof whole.words[0]);
+        list->length += count;
+        if (++number % 4 == 0) pair(list);
+    }
+    pad(list, words);
+}
+
 /* The whole list is judged before its last command is found to be a jump. */
 void refused_at_last(struct list *list, size_t words) {
     capture(list, words - 2);
@@ -128,6 +153,12 @@ void few_ids(struct run *run, size_t writes) {
         id = how < 4 ? 0x41 + (id - 0x41 + 1) % 8 : how < 6 ? id : 0x41 + below(8);
         write_of(run, k, id, below(16) ? 15 : 3);
     }
+}
+
+/* The same, but each eighth write has mask 0. */
+void eighth_idle(struct run *run, size_t writes) {
+    few_ids(run, writes);
+    for (size_t k = 7; k < writes; k += 8) run->masks[k] = 0;
 }
 
 void rising_ids(struct run *run, size_t writes) {

@@ -26,6 +26,7 @@ const struct workload workloads[] = {
     READING("one held id, 256 values a command", one_held, 8256, 1, 0),
     READING("one id, not held, 256 values a command", one_unheld, 8256, 1, 0),
     READING("like a capture", capture, 32768, 2, 0),
+    READING("like a capture, filled", filled_capture, 32768, 2, 0),
     READING("like a capture, refused at the end", refused_at_last, 32768, 2, PICA_JUMP_REGISTER),
     READING("list of 64 words", short_held, 64, 1024, 0),
     READING("list of 4 words", short_held, 4, 4096, 0),
@@ -37,6 +38,7 @@ const struct workload workloads[] = {
     FEEDING("one held id", one_held, 8256, 1, 0),
     FEEDING("one id, not held", one_unheld, 8256, 1, 0),
     FEEDING("like a capture", capture, 32768, 2, 0),
+    FED("like a capture, filled, whole", filled_capture, 32768, 2, 0, 32768),
     FEEDING("refused at the end", refused_at_last, 32768, 2, PICA_JUMP_REGISTER),
     FED("list of 64 words, whole", short_held, 64, 1024, 0, 64),
     FED("list of 4 words, whole", short_held, 4, 4096, 0, 4),
@@ -44,13 +46,15 @@ const struct workload workloads[] = {
     {"close", CLOSE, 1, 64, NULL, NULL, NULL, 0, 0},
     {"write: held registers", WRITE, 4096, 4, NULL, held_writes, NULL, 0, 0},
     LISTING("like a capture", capture, 8192, 8, 0),
+    LISTING("like a capture, filled", filled_capture, 8192, 8, 0),
     LISTING("like a capture, refused at the end", refused_at_last, 8192, 8, PICA_JUMP_REGISTER),
     LISTING("like a capture, the longest list", capture, 65536, 1, 0),
     LISTING("short held commands", short_held, 8192, 8, 0),
     LISTING("long commands, rising, not held", long_unheld, 8192, 1, 0),
-    LISTING("one command of 256 writes", one_command, 258, 64, 0),
+    LISTING("one command of 256 writes", one_command, 260, 64, 0),
     LISTING("list of 4 words", short_held, 4, 4096, 0),
     PACKING("4,096 writes to few ids", few_ids, 4096, 4),
+    PACKING("4,096 writes, an eighth with mask 0", eighth_idle, 4096, 4),
     PACKING("4,096 writes, rising", rising_ids, 4096, 1),
     PACKING("4,096 writes to one id", equal_ids, 4096, 1),
     PACKING("4,096 writes, no two go together", apart_ids, 4096, 1),
@@ -141,7 +145,7 @@ static void one_round(const struct workload *w, const struct library *l, struct 
     case PACK:
         for (size_t k = 0; k < w->times; k++)
             s->answers[k % CALLS] =
-                l->pack(&writes.ids[k * n], n, &writes.masks[k * n], n, &writes.values[k * n], n, s->space, 2 * PICA_RUN_LENGTH_MOST);
+                l->pack(&writes.ids[k * n], n, &writes.masks[k * n], n, &writes.values[k * n], n, s->space, SPACE);
         break;
     case DECODE:
         for (size_t k = 0; k < CALLS; k++)

@@ -2,7 +2,7 @@
  * Ilgadeuk's C functions: command lists of the PICA200 read, whole or in pieces, taken apart, written, decoded and packed, and one
  * fragment's result.
  *
- * This is the header of version 0.4.0, and goes with the libpica.a of that version, which stands beside it where both come from
+ * This is the header of version 0.5.0, and goes with the libpica.a of that version, which stands beside it where both come from
  * one build; CHANGELOG.md has what each version brought. The library needs nothing but the C library. Where it is installed,
  *
  *     cc replayer.c $(pkg-config --cflags --libs pica)
@@ -28,7 +28,8 @@
  * (entry k of table t is light[256 * t + k]). Of a cell only the bits that the register holds count, of an entry only the low 24;
  * all other bits are never read and never changed. A state of zeros is a state like any other.
  *
- * A LIST is a row of words: commands, one after another, that fill it. The empty list is a list too. A command is
+ * A LIST is a row of words: commands, one after another, that fill it. Its words are a multiple of 4 in number, sixteen bytes; any
+ * other length is refusal 15. The empty list is a list too. A command is
  *
  *     word 0         its first parameter
  *     word 1         its header
@@ -40,14 +41,17 @@
  *
  *     bits 0-15      the id of a register, 000h to 2FFh
  *     bits 16-19     the mask. Each bit stands for a byte of every parameter, bit 16 for the lowest; a byte whose bit is 0 is not
- *                    written
+ *                    written. Mask 0 writes nothing
  *     bits 20-27     the number of extra parameters, 0 to 255
  *     bits 28-30     unused. Any value is accepted; pica_pack writes 0
  *     bit 31         consecutive: where it is 1 each parameter goes to the id after the one before, else all go to the same id
  *
  * So a command is one write (id, mask, value) for each of its parameters, in their order: AAAAAAAA 802F011C BBBBBBBB CCCCCCCC are
- * three, to 11C, 11D and 11E, and 1 001F0041 2 0 are two, both to 41, with a padding word. A word is a number and not four bytes:
- * where a capture is a file with the lowest byte first, put its words together so (samples/c/forecast.c has load()).
+ * three, to 11C, 11D and 11E, and 1 001F0041 2 0 are two, both to 41, with a padding word. Writes with mask 0 are checked like all
+ * others, but are not among a list's writes: no count has them, pica_writes doesn't give them and pica_pack drops them. So the pair
+ * 0 0, parameter 0 and header 0, behind words that are even in number and no multiple of 4 fills the list and adds no write to it.
+ * A word is a number and not four bytes: where a capture is a file with the lowest byte first, put its words together so
+ * (samples/c/forecast.c has load()).
  *
  * A DIFFERENCE. A write makes a difference where the cell, entry or index that it touches differs afterwards:
  *   - a write to a held register, one of those that enum pica_field has fields of, where a held bit in the bytes of its mask was
@@ -77,7 +81,7 @@ extern "C" {
  * #if PICA_VERSION >= 2000 asks for 0.2.0 or a later one.
  */
 #define PICA_VERSION_MAJOR 0
-#define PICA_VERSION_MINOR 4
+#define PICA_VERSION_MINOR 5
 #define PICA_VERSION_PATCH 0
 #define PICA_VERSION (PICA_VERSION_MAJOR * 1000000 + PICA_VERSION_MINOR * 1000 + PICA_VERSION_PATCH)
 
@@ -94,7 +98,7 @@ extern "C" {
 #define PICA_LIST_LENGTH_MOST 65536
 #define PICA_RUN_LENGTH_MOST 4096
 
-/* The refusals. Numbers 11 and 15 to 21 are not used. */
+/* The refusals. Numbers 11 and 16 to 21 are not used. */
 enum pica_refusal {
     PICA_LIST_TOO_LONG = 1,        /* a list over 65,536 words */
     PICA_WORDS_MISSING = 2,        /* a command needs more words than are left, a lone word included; the padding word counts */
@@ -109,6 +113,7 @@ enum pica_refusal {
     PICA_DEPTH_ABOVE_LARGEST = 12, /* a depth above 65,535 for depth format 0, above 16,777,215 for any other */
     PICA_CODE_WITHOUT_NAME = 13,   /* a register holds a code that has no name */
     PICA_NOT_BUILT = 14,           /* E0h, 100h or 117h asks for what is not built */
+    PICA_ILLEGAL_LENGTH = 15,      /* a list whose words are no multiple of 4 */
     PICA_TOO_FEW_PLACES = 22       /* the buffers have fewer places than the list has writes */
 };
 
@@ -129,13 +134,14 @@ static inline uint32_t pica_value(uint64_t answer) { return (uint32_t)answer; }
 /*
  * Reads a list of command words into a state: every write of every command, one after another.
  *
- * Answers the number of writes.
+ * Answers the number of writes, those with mask 0 left out.
  * Refuses, in this order:
  *   6   at 0
  *   1   at 0
+ *   15  at 0
  *   then for each command in turn, with the index of the command's first word in the list as place,
  *     2             where the command's words are not all there,
- *     3, 4 or 5     by its first write at fault.
+ *     3, 4 or 5     by its first write at fault, with mask 0 too.
  * cells, fog, light: changed as the writes say; on a refusal, wherever in the list it is, they are as they were.
  * list: only read.
  * differences: how many of the writes made a difference; on a refusal as it was. A plain uint32_t will do: pass its address.
@@ -157,8 +163,8 @@ uint64_t pica_read(uint32_t *cells, size_t cells_length, uint32_t *fog, size_t f
  *
  * Nobody else is to write to either state from the opening to the close: an accepted close takes what was written to the spare for
  * the list's own, and what was written to the live state is lost. The first of the reader's words is the number of words that have
- * come. Any words may stand there, also some that no call left: each call is then still answered, or refused by 1 to 6, though what
- * the close counts may be any number.
+ * come. Any words may stand there, also some that no call left: each call is then still answered, or refused by 1 to 6 or 15,
+ * though what the close counts may be any number.
  */
 
 /*
@@ -192,9 +198,9 @@ uint64_t pica_feed(uint32_t *spare_cells, size_t spare_cells_length, uint32_t *s
 /*
  * Closes the list.
  *
- * Answers the number of its writes.
- * Refuses 6 at 0, for a buffer of either state; then 1 at 0, and for each command in turn 2, or 3, 4 or 5, as pica_read does, with
- * the index in the whole list as place.
+ * Answers the number of its writes, those with mask 0 left out.
+ * Refuses 6 at 0, for a buffer of either state; then 1 at 0, 15 at 0, both by the words of all parts, and for each command in turn
+ * 2, or 3, 4 or 5, as pica_read does, with the index in the whole list as place.
  * cells, fog, light: take the bits that count of the spare state; on a refusal as they were.
  * spare_cells, spare_fog, spare_light: as they were; on a refusal other than 6 they take the bits that count of the live state.
  * reader: zeros, as freshly opened; on refusal 6 as it was.
@@ -216,18 +222,19 @@ uint64_t pica_write(uint32_t *cells, size_t cells_length, uint32_t *fog, size_t 
                     uint32_t id, uint32_t mask, uint32_t value);
 
 /*
- * Gives the writes of a list of command words, in their order: write k sets the bytes masks[k] of register ids[k] to those of
- * values[k]. Up to 4,096 of them are what pica_pack takes, so that this call and that one forecast how short a
- * captured list can be; more are packed in parts.
+ * Gives the writes of a list of command words, in their order, those with mask 0 left out: write k sets the bytes masks[k] of
+ * register ids[k] to those of values[k]. Up to 4,096 of them are what pica_pack takes, so that this call and that one forecast how
+ * short a captured list can be; more are packed in parts.
  *
  * Answers the number of writes.
  * Refuses, in this order:
  *   7   at 0
  *   1   at 0
- *   then for each command in turn 2, or 3, 4 or 5, as pica_read does
+ *   15  at 0
+ *   then for each command in turn 2, or 3, 4 or 5, as pica_read does, with mask 0 too
  *   22  with the places needed as place. So a call with NULL and 0 for all three buffers asks for the number of writes; a list
- *       without writes, which is the empty one, is answered with 0. No list has more writes than words, so that buffers as long as
- *       the list are long enough.
+ *       without writes, the empty one or one of mask 0 throughout, is answered with 0. No list has more writes than words, so that
+ *       buffers as long as the list are long enough.
  * list: only read.
  * ids, masks, values: the writes stand at their start, and past the writes they keep their contents; on a refusal they are as they
  * were.
@@ -237,16 +244,17 @@ uint64_t pica_writes(const uint32_t *list, size_t list_length, uint32_t *ids, si
 
 /*
  * Packs a run of writes into the shortest list that says it: write k sets the bytes masks[k] of register ids[k] to those of
- * values[k]. Among the shortest lists it is the one whose first command carries the most writes, then its second, and so on. It is
- * never longer than two words a write.
+ * values[k]. Writes with mask 0 are checked and then dropped; those before and after one may share a command. Among the shortest
+ * rows of commands for what is left it is the one whose first command carries the most writes, then its second, and so on; where
+ * its words are no multiple of 4, one pair 0 0 stands behind it. The list is never longer than two words a write plus two.
  *
- * Answers the words of the list.
+ * Answers the words of the list, a multiple of 4.
  * Refuses, in this order:
  *   7   at 0
- *   8   at 0
- *   then for each write in turn, with its index as place: 9, 3, 4 or 5
- *   10  with the words needed as place. So a call with NULL and 0 for the space asks for the list's length; an empty run is
- *       answered with 0.
+ *   8   at 0; every write given counts, with mask 0 too
+ *   then for each write in turn, with its index in the run as given as place: 9, 3, 4 or 5
+ *   10  with the words needed as place, the pair included. So a call with NULL and 0 for the space asks for the list's length; an
+ *       empty run, or one of mask 0 throughout, has the empty list and is answered with 0.
  * ids, masks, values: only read.
  * space: the list stands at its start, and past the list it keeps its contents; on a refusal it is as it was.
  */

@@ -360,6 +360,7 @@ static inline const char *pica_refusal_name(uint32_t number) {
     case 12: return "DEPTH_ABOVE_LARGEST";
     case 13: return "CODE_WITHOUT_NAME";
     case 14: return "NOT_BUILT";
+    case 15: return "ILLEGAL_LENGTH";
     case 22: return "TOO_FEW_PLACES";
     default: return NULL;
     }
@@ -382,27 +383,29 @@ static inline const char *pica_refusal_text(uint32_t number) {
     case 13: return "a code without a name, at the register whose id is the place";
     case 14:
         return "not built, at the place's register: E0 fog mode not 0; 100 mode not 0, bit 8, 24 or 25 set; 117 not size 2 with format 0";
+    case 15: return "a list whose words are no multiple of 4";
     case 22: return "the buffers have fewer places than the list has writes";
     default: return NULL;
     }
 }
 
-/* What to do about a refusal: "cut the capture at a command's end" for 1. */
+/* What to do about a refusal: "lend three buffers of one length" for 7. */
 static inline const char *pica_refusal_advice(uint32_t number) {
     switch (number) {
-    case 1: return "cut the capture at a command's end";
+    case 1: return "cut the capture at a command's end, and fill each part with 0 to a multiple of 4 words";
     case 2: return "the list was cut short, or the place before it is no command: look at the place given";
     case 3: return "in a list, the words at the place given are no command, or a consecutive run goes past the last register";
-    case 4: return "cut the list before the command at the place given; the list that it jumps to is read by itself";
+    case 4: return "cut the list before the place given, and fill it with 0 to a multiple of 4 words; the list jumped to is read by itself";
     case 5: return "a fog or light table is written whole words only";
     case 6: return "lend 768 cells, 128 fog entries, 6,144 light entries";
     case 7: return "lend three buffers of one length";
-    case 8: return "pack the run in parts: their lists, joined, say it in one list up to 65,536 words, with at most two words more a seam";
+    case 8: return "pack the run in parts: their lists, joined, say it in one list up to 65,536 words, with at most four words more a seam";
     case 9: return "a mask is four bits";
     case 10: return "lend the words that the place names";
     case 12: return "give at most 65,535 for depth format 0, else 16,777,215";
     case 13: return "the cells held garbage before the list, or the list sets a code that has no name: look at that register";
     case 14: return "the fragment's result isn't told for such a state";
+    case 15: return "the list was cut short, or lacks its last pair; where its words are even in number, a pair 0 0 behind them fills it";
     case 22: return "lend three buffers of as many places as the place names";
     default: return NULL;
     }

@@ -36,7 +36,7 @@ pub struct Totals {
 impl Figures {
     pub fn of(list: &List) -> Result<Self, Refusal> {
         let words = list.words.len() as u64;
-        let shortest = Run::new(&list.writes).shortest(words)?;
+        let shortest = Run::new(&list.writes)?.shortest(words)?;
         Ok(Self {
             words,
             writes: list.writes.len() as u64,

@@ -26,6 +26,9 @@ list a line tells its words, its register writes, the words of the shortest list
 writes in the same order, and what that saves; then come the totals. A list that is refused or
 unreadable gets its line too, and is left out of the totals.
 
+Writes with mask 0 set nothing, aren't counted, and aren't in the shortest list; a list of nothing
+else takes no words. All lengths are multiples of 4, as a list's have to be.
+
 No list that says the same writes is shorter: that is proved. Over 4,096 writes are packed in parts,
 and where a cut between parts may cost something two bounds are told, at least and at most, which
 are proved too. The columns then have what is sure: the longest that the shortest list can be, and

@@ -26,7 +26,7 @@ pub fn overview(out: &mut Output) -> Outcome {
     write!(
         out,
         "
-A list is a file of 32-bit words, the lowest byte first, of at most 65,536 words.
+A list is a file of 32-bit words, the lowest byte first: a multiple of 4, and at most 65,536.
 `pica SUBCOMMAND --help` says more on each; `pica --version` gives the version.
 
 Example

@@ -26,6 +26,11 @@ and in bytes from the file's start), what it means and what to do; or `unreadabl
 that sets nothing gets a remark. Of several lists it is said at the end, on standard error, how many
 were accepted.
 
+A list's words are a multiple of 4 in number, sixteen bytes, else it is refused with 15: the chip
+never comes to an odd last pair. Where no more than a pair is missing, two words 0 behind the list
+fill it, as `truncate -s %16` does to a copy. Writes with mask 0 set nothing: they are checked like
+all others, and neither count has them.
+
 Each list is read into a state of zeros of its own. A write made a difference if the register, table
 entry or index that it touches differs afterwards; each is judged on what those before it left. Data
 of the fog and light tables counts always, since it moves their index. The other writes set nothing

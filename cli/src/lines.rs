@@ -21,14 +21,24 @@ const LINE_MOST: u64 = 1024;
 /// Nothing is read past so many bytes: more than the writes of any list take, in lines that are all as long as may be.
 const BYTES_MOST: u64 = LIST_LENGTH_MOST as u64 * (LINE_MOST + 1);
 
+/// How many writes a list has of these: those with mask 0 belong to none.
+pub fn kept(writes: &[Numbered]) -> usize {
+    writes.iter().filter(|numbered| is_kept(numbered)).count()
+}
+
+fn is_kept(numbered: &Numbered) -> bool {
+    numbered.write.mask != 0
+}
+
 /// The writes of a CSV, or what is wrong with it. Nothing is read past so many writes as no list says.
 pub fn read(file: impl Read) -> Result<Vec<Numbered>, String> {
     let mut file = BufReader::new(file.take(BYTES_MOST + 1));
-    let (mut writes, mut bytes, mut is_first) = (Vec::new(), Vec::new(), true);
+    let (mut writes, mut kept) = (Vec::new(), 0);
+    let (mut bytes, mut is_first) = (Vec::new(), true);
     for line in 1.. {
         bytes.clear();
         let length = next(&mut file, &mut bytes).map_err(unreadable)?;
-        if length == 0 || is_too_much(&file) || writes.len() == LIST_LENGTH_MOST {
+        if length == 0 || is_too_much(&file) || kept == LIST_LENGTH_MOST {
             break;
         }
         let told = |what: String| format!("line {}: {what}", grouped(line));
@@ -46,12 +56,14 @@ pub fn read(file: impl Read) -> Result<Vec<Numbered>, String> {
             return Err(told(too_long(text)));
         } else if !text.is_empty() && (!std::mem::take(&mut is_first) || !is_header(text)) {
             let write = write(text).map_err(told)?;
-            writes.push(Numbered { write, line });
+            let numbered = Numbered { write, line };
+            kept += usize::from(is_kept(&numbered));
+            writes.push(numbered);
         }
     }
     if is_too_much(&file) {
         return Err(String::from(
-            "over 64 MB, which the writes of no list take: leave comments and empty lines out",
+            "over 64 MB, which the writes of no list take: leave out comments, empty lines and writes with mask 0",
         ));
     }
     if is_first {

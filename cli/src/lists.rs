@@ -32,17 +32,20 @@ pub fn load(entry: &Entry) -> Result<List, Problem> {
 }
 
 impl List {
-    /// What is worth a word beside the verdict. Only what is sure: a write with a mask may still go to a register that isn't held.
     pub fn remark(&self) -> Option<&'static str> {
-        if self.words.is_empty() {
-            Some("empty")
-        } else if self.words.iter().all(|&word| word == 0) {
-            Some("sets nothing: every word is 0")
-        } else if self.writes.iter().all(|write| write.mask == 0) {
-            Some("sets nothing: every mask is 0")
-        } else {
-            None
-        }
+        let is_blank = self.words.iter().all(|&word| word == 0);
+        remark(self.words.len() as u64, is_blank, self.writes.len())
+    }
+}
+
+/// What is worth a word beside the verdict on an accepted list, by its words, whether they are all 0, and its writes. Only what is sure:
+/// a write may still go to a register that isn't held.
+pub fn remark(words: u64, is_blank: bool, writes: usize) -> Option<&'static str> {
+    match (words, writes) {
+        (0, _) => Some("empty"),
+        (_, 0) if is_blank => Some("sets nothing: every word is 0"),
+        (_, 0) => Some("sets nothing: every mask is 0"),
+        _ => None,
     }
 }
 
@@ -67,7 +70,7 @@ impl Problem {
     }
 }
 
-/// Where in the list; refusal 1 is about the whole.
+/// Where in the list.
 fn place(refusal: Refusal) -> String {
     match byte(refusal) {
         None => String::new(),
@@ -81,7 +84,11 @@ pub fn word(number: u64) -> String {
     format!("word {number}, byte {byte} ({byte:X}h)")
 }
 
-/// The byte at which the command at fault begins.
+/// The byte at which the command at fault begins; refusals 1 and 15 are about the whole list.
 pub fn byte(refusal: Refusal) -> Option<u64> {
-    (refusal.number != Refusal::LIST_TOO_LONG).then(|| 4 * u64::from(refusal.place))
+    let is_length = matches!(
+        refusal.number,
+        Refusal::LIST_TOO_LONG | Refusal::ILLEGAL_LENGTH
+    );
+    (!is_length).then(|| 4 * u64::from(refusal.place))
 }

@@ -14,6 +14,7 @@ use crate::parts::Run;
 use crate::refusals;
 use crate::status::{note, Failure, Outcome, Status};
 use crate::text::grouped;
+use crate::verdict::counted;
 
 pub const SUMMARY: &str = "the shortest list that says the writes of a CSV";
 
@@ -26,8 +27,12 @@ upper or lower case, with 0x before or h after a number if you like, spaces arou
 id,mask,value may stand first; empty lines and lines that begin with # are passed over. Any other
 line ends the work, and is told by its number.
 
+A list's words are a multiple of 4 in number: where those of its commands are not, one pair of words
+0 stands behind them. Writes with mask 0 set nothing. They are checked like all others and left out,
+and it is said on standard error how many.
+
 Over 4,096 writes are packed in parts that are joined. Where that may cost something it is said on
-standard error how many words at most; where nothing is said the list is the shortest.
+standard error how many words at most; where that isn't said the list is the shortest.
 
   --out FILE.bin   the file to write; without it the list goes to standard output, unless that is
                    a terminal
@@ -76,30 +81,33 @@ pub fn run(args: &[OsString], out: &mut Output) -> Outcome {
     Ok(Status::Well)
 }
 
-/// The list, or why it is refused. Where it may be over the shortest that is said.
+/// The list, or why it is refused. Where it may be over the shortest that is said, and how many writes it leaves out.
 fn packed(writes: &[Numbered]) -> Result<Vec<u32>, String> {
     let too_long = |what: &str| {
         let number = Refusal::LIST_TOO_LONG;
         format!("refused {number}: {what}; cut the CSV, and pack each piece as a list of its own")
     };
     // each command has a header beside its writes
-    if writes.len() >= LIST_LENGTH_MOST {
+    if lines::kept(writes) >= LIST_LENGTH_MOST {
         return Err(too_long(
             "over 65,535 writes, which no list of 65,536 words says",
         ));
     }
-    let run = Run::new(
-        &writes
-            .iter()
-            .map(|numbered| numbered.write)
-            .collect::<Vec<_>>(),
-    );
-    let (list, over) = run.packed().map_err(|refusal| refused(refusal, writes))?;
+    let plain: Vec<_> = writes.iter().map(|numbered| numbered.write).collect();
+    let packed = Run::new(&plain).and_then(|run| run.packed());
+    let (list, over) = packed.map_err(|refusal| refused(refusal, writes))?;
     let words = grouped(list.len() as u64);
     if list.len() > LIST_LENGTH_MOST {
         return Err(too_long(&format!(
             "the list has {words} words, and 65,536 is the most"
         )));
+    }
+    let dropped = (writes.len() - lines::kept(writes)) as u64;
+    if dropped > 0 {
+        let dropped = counted(dropped, "write");
+        note(&format!(
+            "{dropped} with mask 0 left out: mask 0 sets nothing"
+        ));
     }
     if over > 0 {
         note(&format!(

@@ -8,7 +8,7 @@ use pica::{Pieces, State, LIST_LENGTH_MOST};
 use crate::csv;
 use crate::input::{entries, Entry, Reason};
 use crate::json::{object, Value};
-use crate::lists::{word, Problem};
+use crate::lists::{byte, remark, word, Problem};
 use crate::options::{parse, wrong, Known};
 use crate::output::{Output, Written};
 use crate::status::{Failure, Outcome, Status};
@@ -28,7 +28,8 @@ with the differences that its writes made in a state of zeros; the place of a re
 the list's start, and it is said in which part that word stands.
 
 A part is whole words of four bytes, like a list. One that can't be read ends the run, without a
-verdict on the list. Past 65,536 words no more is read.
+verdict on the list. The words of all parts together are a multiple of 4, else the list is refused
+with 15; those of one part may be any number. Past 65,536 words no more is read.
 
   --csv    the verdict alone, as two rows of comma-separated values: the columns' names, which are
            those of `pica judge --csv` from verdict to what_to_do, then part, part_word and
@@ -99,19 +100,15 @@ impl Feeding<'_> {
     fn close(mut self) -> (Verdict, Option<At>) {
         match self.pieces.close() {
             Ok(counts) => {
-                let remark = match self.words {
-                    0 => Some("empty"),
-                    _ => self.is_blank.then_some("sets nothing: every word is 0"),
-                };
                 let accepted = Accepted {
                     counts,
                     words: self.words,
-                    remark,
+                    remark: remark(self.words, self.is_blank, counts.writes),
                 };
                 (Ok(accepted), None)
             }
             Err(refusal) => {
-                let at = (!self.is_over()).then(|| self.place(refusal.place.into()));
+                let at = byte(refusal).map(|_| self.place(refusal.place.into()));
                 (Err(Problem::Refused(refusal)), at)
             }
         }

@@ -32,7 +32,8 @@ Shows what the list in FILE (- for standard input) sets: each register that it w
 then held, and each of the register's fields with its number in hexadecimal, what that stands for
 (the code's name, a float's value, else the number in decimal) and what it was before, where that
 differs. Then the entries of the fog and light tables by ranges, and the registers that are written
-and not held, with the last value written. Names are those of the documents; ids are hexadecimal.
+and not held, with the last value written. Writes with mask 0 set nothing and are left out. Names
+are those of the documents; ids are hexadecimal.
 
   *            before a field or a range of entries: the list changes it
   =            the list writes it and leaves it as it was

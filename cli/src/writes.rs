@@ -21,6 +21,7 @@ and value in hexadecimal, after a line with their names:
   id,mask,value
   041,F,00000001
 
+Writes with mask 0 set nothing and are left out; a pair of words 0 that fills a list is one of them.
 `pica pack` makes a list of such lines. Lines end in LF.
 
   --out FILE.csv   writes to that file instead of standard output

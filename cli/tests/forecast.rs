@@ -29,8 +29,9 @@ fn forecast(folder: &Folder, more: &[&str]) -> Ran {
     pica(&args)
 }
 
-/// Three lists whose shortest lengths are computed by hand, by document 01's examples: 41, 41, 42 take 6 words, three rising ids 4,
-/// and 256 equal ids 258. Each write is captured as a command of its own, of two words.
+/// Three lists whose shortest lengths are computed by hand, by the documents' examples: 41, 41, 42 take 6 words and a pair, three
+/// rising ids 4, and 256 equal ids 258 and a pair. Each write is captured as a command of its own, of two words, with a pair behind
+/// the first two lists.
 fn by_hand(name: &str) -> Folder {
     let folder = Folder::new(name);
     folder.list("pair", &apart([0x41, 0x41, 0x42]));
@@ -45,17 +46,17 @@ fn figures_by_hand() {
     let ran = forecast(&folder, &["--rate", "2"]);
     assert_eq!((ran.status, ran.err.as_str()), (Some(0), ""));
     assert_eq!(figures(&ran.out, "list"), "words writes shortest saved");
-    assert_eq!(figures(&ran.out, "/pair"), "6 3 6 0 0.0 %");
-    assert_eq!(figures(&ran.out, "/rising"), "6 3 4 2 33.3 %");
-    assert_eq!(figures(&ran.out, "/same"), "512 256 258 254 49.6 %");
+    assert_eq!(figures(&ran.out, "/pair"), "8 3 8 0 0.0 %");
+    assert_eq!(figures(&ran.out, "/rising"), "8 3 4 4 50.0 %");
+    assert_eq!(figures(&ran.out, "/same"), "512 256 260 252 49.2 %");
     assert_eq!(
         figures(&ran.out, "total of 3 lists"),
-        "524 262 268 256 48.9 %"
+        "528 262 272 256 48.5 %"
     );
     let times = "
 replayed at 2 words a second
-  captured  0 h 04 min 22 s
-  shortest  0 h 02 min 14 s
+  captured  0 h 04 min 24 s
+  shortest  0 h 02 min 16 s
   saved     0 h 02 min 08 s
 ";
     assert!(ran.out.ends_with(times), "{}", ran.out);
@@ -64,26 +65,26 @@ replayed at 2 words a second
 #[test]
 fn what_is_left_out_is_said() {
     let folder = by_hand("forecast-left-out");
-    folder.list("jump", &[1, 0x000F_023C]);
+    folder.list("jump", &apart([0x23C]));
     folder.bytes("cut", &[0; 9]);
-    folder.list("blank", &[0; 6]);
+    folder.list("blank", &[0; 8]);
     let ran = forecast(&folder, &[]);
     assert_eq!(ran.status, Some(2));
-    let total = "530 265 272 258 48.7 % without 1 refused and 1 unreadable";
+    let total = "536 262 272 264 49.3 % without 1 refused and 1 unreadable";
     assert_eq!(figures(&ran.out, "total of 4 lists"), total);
     assert_eq!(
         figures(&ran.out, "/blank"),
-        "6 3 4 2 33.3 % sets nothing: every word is 0"
+        "8 0 0 8 100.0 % sets nothing: every word is 0"
     );
     assert!(figures(&ran.out, "/jump").starts_with("refused 4 at word 0, byte 0 (0h): "));
     assert!(figures(&ran.out, "/cut").starts_with("unreadable: ends within a word (9 bytes)"));
     assert!(!ran.out.contains("replayed"));
 }
 
-/// 4,100 writes, each id eleven times and then the next, in commands of their own: no cut is sure to cost nothing. That the shortest
-/// list has 4,474 words is by a search over every way to say the run.
+/// 4,102 writes, each id eleven times and then the next, in commands of their own: no cut is sure to cost nothing. That the shortest
+/// list has 4,476 words is by a search over every way to say the run.
 fn steps() -> Vec<u32> {
-    apart((0..4100).map(|k| 0x40 + k / 11))
+    apart((0..4102).map(|k| 0x40 + k / 11))
 }
 
 #[test]
@@ -91,12 +92,12 @@ fn over_4096_writes_there_are_bounds() {
     let folder = Folder::new("forecast-bounds");
     folder.list("steps", &steps());
     let ran = forecast(&folder, &["--rate", "1"]);
-    let expected = "8,200 4,100 4,476 3,724 45.4 % shortest at least 4,474, at most 4,476";
+    let expected = "8,204 4,102 4,480 3,724 45.4 % shortest at least 4,476, at most 4,480";
     assert_eq!(figures(&ran.out, "/steps"), expected);
     let times = "
-  captured  2 h 16 min 40 s
-  shortest  at least 1 h 14 min 34 s, at most 1 h 14 min 36 s
-  saved     at least 1 h 02 min 04 s, at most 1 h 02 min 06 s
+  captured  2 h 16 min 44 s
+  shortest  at least 1 h 14 min 36 s, at most 1 h 14 min 40 s
+  saved     at least 1 h 02 min 04 s, at most 1 h 02 min 08 s
 ";
     assert!(ran.out.ends_with(times), "{}", ran.out);
 }
@@ -109,7 +110,7 @@ fn where_the_bounds_meet_one_number_is_told() {
     folder.list("steps", &steps());
     let ran = forecast(&folder, &[]);
     assert_eq!(figures(&ran.out, "/same"), "8,196 4,098 4,116 4,080 49.8 %");
-    let total = "16,396 8,198 8,592 7,804 47.6 % shortest at least 8,590, at most 8,592";
+    let total = "16,400 8,200 8,596 7,804 47.6 % shortest at least 8,592, at most 8,596";
     assert_eq!(figures(&ran.out, "total of 2 lists"), total);
 }
 
@@ -119,7 +120,7 @@ const COLUMNS: &str = "path verdict words writes shortest_at_least shortest_at_m
 #[test]
 fn the_csv_has_a_row_for_each_list() {
     let (folder, out) = (by_hand("forecast-csv"), Folder::new("forecast-csv-out"));
-    folder.list("jump", &[1, 0x000F_023C]);
+    folder.list("jump", &apart([0x23C]));
     folder.list("long", &steps());
     let path = out.path("figures.csv");
     let path = path.to_str().unwrap();
@@ -131,9 +132,9 @@ fn the_csv_has_a_row_for_each_list() {
     assert_eq!(rows[0], split(COLUMNS));
     assert_eq!(rows[1][1], "refused");
     assert!(rows[1][2..11].iter().all(String::is_empty) && rows[1][11].contains("jump register"));
-    let long = "ok 8200 4100 4474 4476 3724 3726 2050.000000 1118.500000 1119.000000";
+    let long = "ok 8204 4102 4476 4480 3724 3728 2051.000000 1119.000000 1120.000000";
     assert_eq!(rows[2][1..11], split(long));
-    let rising = "ok 6 3 4 4 2 2 1.500000 1.000000 1.000000";
+    let rising = "ok 8 3 4 4 4 4 2.000000 1.000000 1.000000";
     assert_eq!(rows[4][1..11], split(rising));
     assert_eq!(rows.len(), 6);
     assert_eq!(
@@ -141,14 +142,14 @@ fn the_csv_has_a_row_for_each_list() {
         Some(1)
     );
     let without_a_rate = csv(&fs::read_to_string(path).unwrap());
-    assert_eq!(without_a_rate[4][7..11], ["2", "", "", ""]);
+    assert_eq!(without_a_rate[4][7..11], ["4", "", "", ""]);
 }
 
 #[test]
 fn the_picture_is_well_formed_and_has_the_figures() {
     let folder = by_hand("forecast-plot");
     folder.list("long&<odd>\u{1b}\u{FFFF}\"", &steps());
-    folder.list("jump", &[1, 0x000F_023C]);
+    folder.list("jump", &apart([0x23C]));
     let out = Folder::new("forecast-plot-out");
     let path = out.path("figures.svg");
     forecast(
@@ -156,21 +157,21 @@ fn the_picture_is_well_formed_and_has_the_figures() {
         &["--plot", path.to_str().unwrap(), "--rate", "1000"],
     );
     let texts = xml(&fs::read_to_string(path).unwrap());
-    let sum = "4 lists, without 1 refused: 8,724 words captured, 4,742 to 4,744 at the shortest, 3,980 to 3,982 saved (at least 45.6 %)";
+    let sum = "4 lists, without 1 refused: 8,732 words captured, 4,748 to 4,752 at the shortest, 3,980 to 3,984 saved (at least 45.6 %)";
     let expected = [
         sum,
         "captured",
         "shortest",
         "shortest, between at least and at most",
         "rising",
-        "4 (\u{2212}33.3 %)",
+        "4 (\u{2212}50.0 %)",
         "pair",
-        "4,474 to 4,476 (\u{2212}45.4 % or more)",
+        "4,476 to 4,480 (\u{2212}45.4 % or more)",
         "long&<odd>\\u{1b}\u{FFFD}\"",
         "10,000",
         "total of 4 lists",
         "Replayed at 1,000 words a second",
-        "captured: 0 h 00 min 08.724 s; shortest: at least 0 h 00 min 04.742 s, at most 0 h 00 min 04.744 s",
+        "captured: 0 h 00 min 08.732 s; shortest: at least 0 h 00 min 04.748 s, at most 0 h 00 min 04.752 s",
     ];
     for text in expected {
         assert!(
@@ -184,15 +185,15 @@ fn the_picture_is_well_formed_and_has_the_figures() {
 fn a_picture_of_many_lists_draws_the_largest() {
     let folder = Folder::new("forecast-many");
     for k in 1..=45 {
-        folder.list(format!("{k:02}"), &apart(vec![0x41; k]));
+        folder.list(format!("{k:02}"), &apart(vec![0x41; 2 * k]));
     }
     let out = Folder::new("forecast-many-out");
     let path = out.path("figures.svg");
     forecast(&folder, &["--plot", path.to_str().unwrap()]);
     let texts = xml(&fs::read_to_string(path).unwrap());
     assert!(texts.contains(&String::from("06")) && !texts.contains(&String::from("05")));
-    // 1 to 5 writes of one id: 2, 4, 4, 6, 6 words
-    let others = "The 40 largest are drawn; the 5 others: 30 words captured, 22 at the shortest";
+    // 2, 4, 6, 8 and 10 writes of one id: 4, 8, 8, 12, 12 words
+    let others = "The 40 largest are drawn; the 5 others: 60 words captured, 44 at the shortest";
     assert!(texts.iter().any(|text| text == others), "{texts:#?}");
 }
 

@@ -12,9 +12,9 @@ use std::time::{Duration, Instant};
 
 use common::{command, pica, pica_fed, shell, Folder};
 
-const LIST: [u32; 2] = [1, 0x000F_0041];
+const LIST: [u32; 4] = [1, 0x000F_0041, 0, 0];
 /// What is said of it.
-const VERDICT: &str = "ok, 1 write (1 made a difference), 2 words";
+const VERDICT: &str = "ok, 1 write (1 made a difference), 4 words";
 
 /// The lines of a run, without the folder's name.
 fn lines(folder: &Folder, out: &str) -> Vec<String> {
@@ -95,7 +95,8 @@ fn what_is_no_file_in_a_folder_is_told_and_never_opened() {
 #[test]
 fn pipes_and_devices_are_read_where_they_are_named() {
     let folder = Folder::new("input-named");
-    let ran = shell("\"$0\" judge <(printf '\\1\\0\\0\\0A\\0\\17\\0')", &[""]);
+    let list = "printf '\\1\\0\\0\\0A\\0\\17\\0'; head -c 8 /dev/zero";
+    let ran = shell(&format!("\"$0\" judge <({list})"), &[""]);
     let verdict = format!(": {VERDICT}\n");
     assert!(ran.out.ends_with(&verdict), "{}", ran.out);
     assert_eq!(

@@ -36,7 +36,7 @@ fn every_refusal_of_a_list_has_its_number_place_and_text() {
     let folder = Folder::new("judge-refusals");
     let whole = [1, 0x000F_0041];
     let cases: [(&str, &[u32], &str); 4] = [
-        ("2", &[5], "refused 2 at word 2, byte 8 (8h): "),
+        ("2", &[1, 0x001F_0041], "refused 2 at word 2, byte 8 (8h): "),
         ("3", &[1, 0x000F_0300], "refused 3 at word 2, byte 8 (8h): "),
         ("4", &[1, 0x000F_023D], "refused 4 at word 2, byte 8 (8h): "),
         ("5", &[1, 0x0007_00E8], "refused 5 at word 2, byte 8 (8h): "),
@@ -60,7 +60,7 @@ fn every_refusal_of_a_list_has_its_number_place_and_text() {
     let longest = pica(&["judge".into(), folder.list("longest", &vec![0; 65_536])]);
     assert!(
         longest.out.contains(
-            "ok, 32,768 writes (0 made a difference), 65,536 words (sets nothing: every word is 0)"
+            "ok, 0 writes (0 made a difference), 65,536 words (sets nothing: every word is 0)"
         ),
         "{}",
         longest.out
@@ -79,22 +79,22 @@ fn a_list_that_sets_nothing_gets_a_remark() {
         (
             "blank",
             &[0; 8],
-            "ok, 4 writes (0 made a difference), 8 words (sets nothing: every word is 0)\n",
+            "ok, 0 writes (0 made a difference), 8 words (sets nothing: every word is 0)\n",
         ),
         (
             "maskless",
-            &[7, 0x0000_0041],
-            "ok, 1 write (0 made a difference), 2 words (sets nothing: every mask is 0)\n",
+            &[7, 0x8010_0041, 7, 0],
+            "ok, 0 writes (0 made a difference), 4 words (sets nothing: every mask is 0)\n",
         ),
         (
             "one",
-            &[7, 0x0001_0041],
-            "ok, 1 write (1 made a difference), 2 words\n",
+            &[7, 0x0001_0041, 0, 0],
+            "ok, 1 write (1 made a difference), 4 words\n",
         ),
         (
             "zeros",
-            &[0, 0x000F_0041],
-            "ok, 1 write (0 made a difference), 2 words\n",
+            &[0, 0x000F_0041, 0, 0],
+            "ok, 1 write (0 made a difference), 4 words\n",
         ),
     ];
     for (name, words, expected) in cases {
@@ -130,7 +130,7 @@ fn differences_are_those_of_each_list_in_a_state_of_zeros() {
 fn a_batch_goes_on_and_the_worst_is_its_status() {
     let folder = Folder::new("judge-batch");
     let (good, cut) = (
-        folder.list("good", &[1, 0x000F_0041]),
+        folder.list("good", &apart([0x41])),
         folder.bytes("cut", &[0; 7]),
     );
     let missing = folder.path("missing");
@@ -154,7 +154,7 @@ fn a_batch_goes_on_and_the_worst_is_its_status() {
         "{}",
         lines[2]
     );
-    assert!(lines[3].ends_with("good: ok, 1 write (1 made a difference), 2 words"));
+    assert!(lines[3].ends_with("good: ok, 1 write (1 made a difference), 4 words"));
     assert_eq!(ran.err, "pica: 1 accepted, 1 refused, 2 unreadable\n");
     assert_eq!(
         pica(&["judge".into(), good, example("jump.bin")]).status,
@@ -172,9 +172,10 @@ fn columns() -> Vec<&'static str> {
 fn verdicts(name: &str) -> Folder {
     let folder = Folder::new(name);
     folder.list("a, \"b\"\n.bin", &apart([0x41, 0x42]));
-    folder.list("blank", &[0, 0]);
+    folder.list("blank", &[0; 4]);
     folder.list("jump", &[1, 0x000F_0041, 1, 0x000F_023C]);
     folder.list("long", &vec![0; 65_537]);
+    folder.list("pair", &[1, 0x000F_023C]);
     folder.bytes("seven", &[0; 7]);
     folder
 }
@@ -192,14 +193,16 @@ fn csv_has_a_row_for_each() {
     assert!(rows[0][0].ends_with("/a, \"b\"\n.bin"));
     assert_eq!(rows[0][1..], ["ok", "2", "4", "", "", "", "", "", "2"]);
     let nothing = "sets nothing: every word is 0";
-    assert_eq!(rows[1][1..8], ["ok", "1", "2", "", "", "", nothing]);
+    assert_eq!(rows[1][1..8], ["ok", "0", "4", "", "", "", nothing]);
     assert_eq!(rows[1][8..], ["", "0"]);
     assert_eq!(rows[2][1..7], ["refused", "", "", "4", "2", "8"]);
     assert_eq!(rows[2][9], "");
     let long = "a list over 65,536 words";
     assert_eq!(rows[3][1..8], ["refused", "", "", "1", "0", "", long]);
+    let pair = "a list whose words are no multiple of 4";
+    assert_eq!(rows[4][1..8], ["refused", "", "", "15", "0", "", pair]);
     let seven = "ends within a word (7 bytes)";
-    assert_eq!(rows[4][1..8], ["unreadable", "", "", "", "", "", seven]);
+    assert_eq!(rows[5][1..8], ["unreadable", "", "", "", "", "", seven]);
 }
 
 #[test]
@@ -216,8 +219,8 @@ fn a_file_to_write_is_no_list_to_judge() {
     assert_eq!((ran.status, ran.out.as_str()), (Some(2), ""));
     assert!(ran.err.contains("put > before its name"), "{}", ran.err);
     // what is there is judged
-    folder.list("out.csv", &[1, 0x000F_0041]);
-    assert!(pica(&args).out.contains("out.csv,ok,1,2,"));
+    folder.list("out.csv", &apart([0x41]));
+    assert!(pica(&args).out.contains("out.csv,ok,1,4,"));
 }
 
 #[test]

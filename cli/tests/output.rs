@@ -67,7 +67,7 @@ fn a_closed_pipe_gives_status_2_without_a_word_and_ends_the_work() {
         assert_eq!(ran.err, "2\n", "{args:?}");
     }
     for k in 0..2000 {
-        folder.list(format!("{k:04}"), &[1, 0x000F_0041]);
+        folder.list(format!("{k:04}"), &apart([0x41]));
     }
     let ran = shell(
         "{ \"$0\" judge \"$1\"; echo $? >&2; } | head -1",
@@ -88,7 +88,7 @@ fn what_prints_nothing_loses_nothing() {
     assert_eq!((ran.status, ran.err.as_str()), (Some(0), ""));
     assert_eq!(
         fs::read(folder.path("writes.csv.bin")).unwrap(),
-        [1, 0, 0, 0, 0x41, 0, 0x0F, 0]
+        [1, 0, 0, 0, 0x41, 0, 0x0F, 0, 0, 0, 0, 0, 0, 0, 0, 0]
     );
 }
 

@@ -65,7 +65,8 @@ fn a_refusal_is_placed_in_the_list_and_in_its_part() {
 
     // a command that is cut has its place where it began, in an earlier part; an empty part before it has no word
     let folder = Folder::new("pieces-cut");
-    let paths = parts(&folder, &[&LIST[..2], &[], &[1, 0x802F_0041], &[2], &[]]);
+    let cut: [&[u32]; 5] = [&LIST[..2], &[], &[1, 0x805F_0041], &[2, 3, 4, 5], &[]];
+    let paths = parts(&folder, &cut);
     let ran = pieces(&paths);
     assert_eq!(ran.status, Some(1));
     assert!(verdict(&ran).starts_with("the list: refused 2 at word 2, byte 8 (8h): "));
@@ -83,10 +84,14 @@ fn random_cuttings_get_judges_verdict() {
     for list in [
         &LIST[..],
         &LIST[..7],
+        &LIST[2..4],
         &[0; 6],
+        &[0; 8],
+        &[7, 0x0010_0041, 7, 0],
         &[],
-        &[1, 0x000F_0041, 1, 0x000F_0300, 5, 6],
-        &[1, 0x802F_00E7, 2, 3, 4, 0x0007_00E8],
+        &[1, 0x000F_0041, 1, 0x002F_0042],
+        &[1, 0x000F_0041, 1, 0x000F_0300, 5, 6, 7, 8],
+        &[1, 0x802F_00E7, 2, 3, 4, 0x0007_00E8, 0, 0],
     ] {
         let folder = Folder::new("pieces-random");
         let joined = pica(&["judge".into(), folder.list("joined", list)]);
@@ -145,7 +150,7 @@ fn the_limit_is_on_the_joined_length() {
     let long = folder.list("long", &vec![0; 65_535]);
     let (one, two) = (folder.list("one", &[0]), folder.list("two", &[0; 2]));
     let most = pieces(&[long.clone(), one]);
-    let accepted = "the list: ok, 32,768 writes (0 made a difference), 65,536 words (sets nothing: every word is 0)";
+    let accepted = "the list: ok, 0 writes (0 made a difference), 65,536 words (sets nothing: every word is 0)";
     assert_eq!((most.status, verdict(&most)), (Some(0), accepted));
 
     let over = pieces(&[long, two, folder.path("not read")]);
@@ -216,7 +221,8 @@ fn csv_and_json_have_the_verdict() {
     assert_eq!(told(&good)[..6], ["ok", "4", "8", "", "", ""]);
     assert_eq!(told(&good)[8..], ["", "", "", "4"]);
 
-    let cut = parts(&folder, &[&LIST[..1], &LIST[1..7]]);
+    let long = [&LIST[1..6], &[7, 0x001F_0107]].concat();
+    let cut = parts(&folder, &[&LIST[..1], &long]);
     let row = told(&cut);
     assert_eq!(row[..6], ["refused", "", "", "2", "6", "24"]);
     assert_eq!(row[8..], [cut[1].to_str().unwrap(), "5", "20", ""]);

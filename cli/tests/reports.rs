@@ -27,7 +27,7 @@ fn files_are_written_though_nobody_reads_the_table() {
         let rows = fs::read_to_string(out.path("x.csv")).unwrap();
         assert_eq!(rows.lines().count(), 3, "{away}");
         let picture = fs::read_to_string(out.path("x.svg")).unwrap();
-        assert!(picture.contains("2 lists: 12 words captured, 8 at the shortest"));
+        assert!(picture.contains("2 lists: 16 words captured, 8 at the shortest"));
         fs::remove_file(out.path("x.csv")).unwrap();
     }
 }

@@ -6,7 +6,7 @@ use std::ffi::OsStr;
 use std::fs;
 use std::path::Path;
 
-use common::{apart, bytes_of, command, example, pica, pica_fed, shell, Folder, Random};
+use common::{apart, bytes_of, command, example, filled, pica, pica_fed, shell, Folder, Random};
 
 fn writes(path: &Path) -> String {
     let ran = pica(&[OsStr::new("writes"), path.as_os_str()]);
@@ -17,7 +17,7 @@ fn writes(path: &Path) -> String {
 #[test]
 fn writes_are_printed_in_order() {
     let folder = Folder::new("writes-order");
-    // document 01's example, a masked write, and one with a padding word
+    // document 01's example, a masked write, one with a padding word, and the pair that fills the list
     let list = [
         0xAAAA_AAAA,
         0x802F_011C,
@@ -29,6 +29,8 @@ fn writes_are_printed_in_order() {
         0x701F_0041,
         2,
         9,
+        0,
+        0,
     ];
     let expected = "id,mask,value\n11C,F,AAAAAAAA\n11D,F,BBBBBBBB\n11E,F,CCCCCCCC\n107,2,00001F71\n041,F,00000001\n041,F,00000002\n";
     assert_eq!(writes(&folder.list("list", &list)), expected);
@@ -48,12 +50,16 @@ fn packing_gives_document_01s_lists() {
     let csv = "41,F,1\n41,F,2\n42,F,3\n43,F,4\n";
     let ran = pica_fed(&["pack", "-"], &[csv.as_bytes()]);
     assert_eq!(ran.status, Some(0));
-    assert_eq!(ran.bytes, bytes_of(&[1, 0x000F_0041, 2, 0x802F_0041, 3, 4]));
+    let six = [1, 0x000F_0041, 2, 0x802F_0041, 3, 4];
+    assert_eq!(ran.bytes, bytes_of(&filled(six.to_vec())));
     let ran = pica_fed(
         &["pack", "-"],
         &[b"# comment\n\n 0x41 , fh , 1\r\n41,F,2\n42,F,3"],
     );
-    assert_eq!(ran.bytes, bytes_of(&[1, 0x001F_0041, 2, 0, 3, 0x000F_0042]));
+    let six = [1, 0x001F_0041, 2, 0, 3, 0x000F_0042];
+    assert_eq!(ran.bytes, bytes_of(&filled(six.to_vec())));
+    let same = pica_fed(&["pack", "-"], &["41,F,7\n".repeat(256).as_bytes()]);
+    assert_eq!(same.bytes.len(), 4 * 260);
     let empty = pica_fed(&["pack", "-"], &[b"id,mask,value\n"]);
     assert_eq!((empty.status, empty.bytes.len()), (Some(0), 0));
 }
@@ -86,8 +92,8 @@ fn a_list_goes_there_and_back() {
         let long = ids.into_iter().cycle().take(9000);
         assert_eq!(round_trip(&folder, &folder.list("long", &apart(long))), "");
     }
-    let steps = apart((0..4100).map(|k| 0x40 + k / 11));
-    let told = "pica: over 4,096 writes, packed in parts: 4,476 words, at most 2 more than the shortest list\n";
+    let steps = apart((0..4102).map(|k| 0x40 + k / 11));
+    let told = "pica: over 4,096 writes, packed in parts: 4,480 words, at most 4 more than the shortest list\n";
     assert_eq!(round_trip(&folder, &folder.list("steps", &steps)), told);
 }
 
@@ -152,15 +158,22 @@ fn the_packers_refusals_name_the_line() {
 
 #[test]
 fn more_than_a_list_can_say_is_refused() {
-    // alternating ids take two words a write
-    let csv = "41,F,1\n43,F,1\n".repeat(16_385);
-    let ran = pica_fed(&["pack", "-"], &[csv.as_bytes()]);
-    assert_eq!(ran.status, Some(1));
-    assert!(
-        ran.err.contains("refused 1: the list has 65,540 words"),
-        "{}",
-        ran.err
-    );
+    // alternating ids take two words a write, and a pair where there are 65,538 of them
+    let longest = "41,F,1\n43,F,1\n".repeat(16_384);
+    for more in ["41,F,1\n", "41,F,1\n43,F,1\n"] {
+        let ran = pica_fed(&["pack", "-"], &[longest.as_bytes(), more.as_bytes()]);
+        assert_eq!((ran.status, ran.bytes.len()), (Some(1), 0));
+        assert!(
+            ran.err.contains("refused 1: the list has 65,540 words"),
+            "{}",
+            ran.err
+        );
+    }
+    // as many as fit, and one fewer with the pair in its place
+    for csv in [&longest[..], &longest[7..]] {
+        let ran = pica_fed(&["pack", "-"], &[csv.as_bytes()]);
+        assert_eq!((ran.status, ran.bytes.len()), (Some(0), 262_144));
+    }
     // of an endless run no more is read than tells
     let ran = shell("yes 41,F,1 | \"$0\" pack -", &[""]);
     assert_eq!(ran.status, Some(1));

@@ -208,14 +208,25 @@ impl Driver {
         self.set(0x231, 1);
     }
 
-    /// The end of a buffer, whose size is a multiple of 16 bytes.
-    pub fn end(mut self) -> Vec<u32> {
+    /// What is drawn goes to memory.
+    pub fn flush(&mut self) {
         self.set(0x111, 1);
         self.set(0x110, 1);
+    }
+
+    /// The command that a buffer ends with.
+    pub fn finish(&mut self) {
         self.set(0x10, 0x1234_5678);
-        if self.words.len() % 4 != 0 {
-            self.set(0x10, 0x1234_5678);
+    }
+
+    /// The end of a buffer, whose size is a multiple of 16 bytes: the chip never comes to an odd last pair. Where one is missing it stands
+    /// before the last command, as zeros.
+    pub fn end(mut self) -> Vec<u32> {
+        self.flush();
+        if self.words.len() % 4 == 0 {
+            self.words.extend([0, 0]);
         }
+        self.finish();
         self.words
     }
 }

@@ -17,6 +17,7 @@ pub fn captures() -> Vec<(&'static str, Vec<u32>)> {
         ("10-map.bin", map()),
         ("11-loading.bin", loading()),
         ("12-credits.bin", credits()),
+        ("13-ending.bin", ending()),
     ]
 }
 
@@ -24,17 +25,15 @@ pub fn captures() -> Vec<(&'static str, Vec<u32>)> {
 /// header, a part of no words, within the fog's data, and before and after a padding word.
 pub fn pieces() -> Vec<(&'static str, Vec<u32>)> {
     let list = field();
-    let cuts = [0, 39, 39, 90, 139, 140, list.len()];
-    let names = [
-        "field-1.bin",
-        "field-2.bin",
-        "field-3.bin",
-        "field-4.bin",
-        "field-5.bin",
-        "field-6.bin",
+    let parts = [
+        ("field-1.bin", 0..39),
+        ("field-2.bin", 39..39),
+        ("field-3.bin", 39..90),
+        ("field-4.bin", 90..139),
+        ("field-5.bin", 139..140),
+        ("field-6.bin", 140..list.len()),
     ];
-    let part = |(name, cut): (_, &[usize])| (name, list[cut[0]..cut[1]].to_vec());
-    names.into_iter().zip(cuts.windows(2)).map(part).collect()
+    parts.map(|(name, part)| (name, list[part].to_vec())).into()
 }
 
 /// Every register that a frame needs is set to what it begins with, one by one.
@@ -281,4 +280,20 @@ fn credits() -> Vec<u32> {
         }
     }
     gpu.end()
+}
+
+/// By a driver that ends a buffer wherever it comes to: here in an odd last pair, which is the very command that must not be lost.
+fn ending() -> Vec<u32> {
+    let mut gpu = Driver::new(13);
+    gpu.framebuffer(240, 400);
+    gpu.viewport(240.0, 400.0);
+    gpu.vertices();
+    for _ in 0..6 {
+        gpu.texture(256, 128);
+        gpu.uniforms(0, 4, 16);
+        gpu.draw(6);
+    }
+    gpu.flush();
+    gpu.finish();
+    gpu.words
 }

@@ -1,6 +1,6 @@
 /*
  * Judges a captured list, whole and in pieces, tells how many of its writes made a difference, shows what it sets, forecasts how
- * short it could be, and draws one fragment with the state that the list leaves.
+ * short it could be, shows how a list is filled, and draws one fragment with the state that the list leaves.
  *
  *     forecast FILE        FILE holds the list's words, four bytes a word, the lowest byte first
  *
@@ -135,10 +135,11 @@ static int show_fields(const struct state *s) {
 /*
  * How short the list could be: its writes are packed into the shortest list that says them. The first packing lends no space
  * and asks for the length, which the refusal's place tells; the second has just so many words. No list has more writes than
- * words.
+ * words, and none that is packed more words than two a write plus two.
  */
 static int show_forecast(const uint32_t *list, size_t length) {
-    static uint32_t ids[MOST_LOADED], masks[MOST_LOADED], values[MOST_LOADED], space[2 * PICA_RUN_LENGTH_MOST];
+    static uint32_t ids[MOST_LOADED], masks[MOST_LOADED], values[MOST_LOADED];
+    static uint32_t space[2 * PICA_RUN_LENGTH_MOST + 2];
     uint64_t answer = pica_writes(list, length, ids, length, masks, length, values, length);
     if (!answered("writes", answer)) return 0;
     uint32_t writes = pica_value(answer);
@@ -151,6 +152,22 @@ static int show_forecast(const uint32_t *list, size_t length) {
     printf("forecast: %u writes, %u words captured, %u words at the shortest\n", (unsigned)writes, (unsigned)length,
            (unsigned)pica_value(answer));
     return 1;
+}
+
+/*
+ * A list's words are a multiple of 4. Here the write with mask 0 is dropped, the other takes two words, and the pair 0 0 fills the list.
+ * Without the pair the list is refused; a capture that lacks its last pair is mended in the same way.
+ */
+static int show_filling(struct state *s) {
+    static const uint32_t ids[] = {0x40, 0x41}, masks[] = {15, 0}, values[] = {1, 2};
+    uint32_t list[2 * 2 + 2], differences;
+    uint64_t packed = pica_pack(ids, 2, masks, 2, values, 2, list, 2 * 2 + 2);
+    if (!answered("pack two writes", packed)) return 0;
+    printf("filling: %u words", (unsigned)pica_value(packed));
+    for (uint32_t k = 0; k < pica_value(packed); k++) printf("%s %08X", k ? "" : ",", (unsigned)list[k]);
+    uint64_t alone = pica_read(LENT(s), list, 2, &differences);
+    printf("; the first two alone are refused with %u: %s\n", (unsigned)pica_number(alone), named(pica_refusal_text(pica_number(alone))));
+    return pica_number(alone) == PICA_ILLEGAL_LENGTH;
 }
 
 static uint32_t colour(uint32_t red, uint32_t green, uint32_t blue, uint32_t alpha) { return red | green << 8 | blue << 16 | alpha << 24; }
@@ -201,5 +218,6 @@ int main(int argc, char **argv) {
     size_t words = (size_t)length;
     int is_read = show_read(&s, list, words), is_fed = show_pieces(&s, list, words);
     if (!is_read || !is_fed) return 1;
-    return show_again(&s, list, words) && show_fields(&s) && show_forecast(list, words) && show_empty(&s) && show_fragment(&s) ? 0 : 1;
+    int is_shown = show_again(&s, list, words) && show_fields(&s) && show_forecast(list, words) && show_empty(&s) && show_filling(&s);
+    return is_shown && show_fragment(&s) ? 0 : 1;
 }

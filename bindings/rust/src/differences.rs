@@ -35,7 +35,7 @@ pub struct Written {
 
 /// What is counted of an accepted list; [`State::read`](crate::State::read) and [`Pieces::close`](crate::Pieces::close) give it.
 ///
-/// Each write is judged on the state that the ones before it left.
+/// Each write is judged on the state that the ones before it left. Neither count has writes with mask 0.
 ///
 /// ```
 /// use pica::{Counts, State};
@@ -57,7 +57,7 @@ pub struct Written {
 /// ```
 #[derive(Clone, Copy, Debug, Default, PartialEq, Eq, Hash)]
 pub struct Counts {
-    /// How many writes the list has.
+    /// How many writes the list has, those with mask 0 left out.
     pub writes: usize,
     /// How many of them made a difference, as [`Written`] says it of one. Where it is 0 the state is as it was before the list.
     pub differences: usize,

@@ -4,7 +4,8 @@
 //! place; one that arrives in pieces is fed part by part ([`State::open`]). Either way it is told how many writes the list has and how
 //! many of them made a difference ([`Counts`]). A state is decoded into [`Settings`] and tells what one fragment leaves in the
 //! framebuffer. A list's own writes are what [`writes`] gives, and the other way round [`pack`] turns a run of writes into the shortest
-//! list that says it. `include/pica.h` tells how a list is laid out.
+//! list that says it. `include/pica.h` tells how a list is laid out; its words are a multiple of 4 in number. Writes with mask 0 set
+//! nothing: they are checked, but no count has them, [`writes`] doesn't give them and [`pack`] drops them.
 //!
 //! Any words and any numbers may come in: every call answers or gives a [`Refusal`], and a refused call changes nothing, but for the
 //! spare state of a list in pieces.
@@ -13,7 +14,8 @@
 //! use pica::State;
 //!
 //! let mut state = State::default();
-//! let read = state.read(&[0x2, 0x000F_0040])?; // culling mode 2, into register 40
+//! let list = [0x2, 0x000F_0040, 0, 0]; // culling mode 2, into register 40; the pair 0 0 fills the list to four words
+//! let read = state.read(&list)?;
 //! assert_eq!((read.writes, read.differences), (1, 1));
 //! assert_eq!(state.decode()?.rasteriser.culling, 2);
 //! # Ok::<(), pica::Refusal>(())

@@ -8,7 +8,7 @@ use crate::{ffi, Refusal};
 pub const RUN_LENGTH_MOST: usize = 4_096;
 
 /// One register write: the bytes of `value` whose bit in `mask` is 1 go to register `id`. Bit 0 of the mask stands for the
-/// lowest byte. The default's mask is 0, so that it sets no byte.
+/// lowest byte. The default's mask is 0, so that it sets no byte, and is dropped where it is packed.
 #[derive(Clone, Copy, Debug, Default, PartialEq, Eq, Hash)]
 pub struct Write {
     /// The register.
@@ -19,25 +19,34 @@ pub struct Write {
     pub value: u32,
 }
 
-/// Packs a run of writes into the shortest list that says it, at the start of `space`, and gives the number of its words.
-/// Among the shortest lists it is the one whose first command carries the most writes, then its second, and so on. `space`
-/// past the list keeps its contents.
+/// Packs a run of writes into the shortest list that says it, at the start of `space`, and gives the number of its words, a multiple
+/// of 4. `space` past the list keeps its contents.
+///
+/// Writes with mask 0 are dropped; those before and after one may share a command. Among the shortest rows of commands for what is left
+/// it is the one whose first command carries the most writes, then its second, and so on; where its words are no multiple of 4, one
+/// pair 0 0, parameter 0 and header 0, stands behind it. An empty run, and one of mask 0 throughout, has the empty list. The list is
+/// never longer than two words a write plus two.
 ///
 /// # Errors
 ///
-/// In this order: 7; 8; for each write in turn 9, 3, 4 or 5, with its index; 10, with the words needed. `space` is then as it was.
+/// In this order: 7; 8; for each write in turn 9, 3, 4 or 5, with its index in the run as given; 10, with the words needed, the pair
+/// included. `space` is then as it was. For 8, and for the write at fault, writes with mask 0 count like all others.
 ///
 /// ```
 /// use pica::{pack, Refusal};
 ///
 /// let (ids, masks, values) = ([0x41, 0x41, 0x42, 0x43], [15; 4], [1, 2, 3, 4]);
-/// let mut space = [0xDEAD_BEEF; 7];
-/// let refusal = pack(&ids, &masks, &values, &mut space[..5]).unwrap_err();
-/// assert_eq!(refusal, Refusal { number: Refusal::NO_ROOM, place: 6 });
+/// let mut space = [0xDEAD_BEEF; 9];
+/// let refusal = pack(&ids, &masks, &values, &mut space[..7]).unwrap_err();
+/// assert_eq!(refusal, Refusal { number: Refusal::NO_ROOM, place: 8 });
 ///
 /// let words = pack(&ids, &masks, &values, &mut space)?;
-/// assert_eq!(space[..words], [1, 0x000F_0041, 2, 0x802F_0041, 3, 4]);
+/// assert_eq!(space[..words], [1, 0x000F_0041, 2, 0x802F_0041, 3, 4, 0, 0]); // six words, and the pair
 /// assert_eq!(space[words..], [0xDEAD_BEEF]);
+///
+/// // 42 with mask 0 is dropped, and the two writes to 41 share a command
+/// let words = pack(&[0x41, 0x42, 0x41], &[15, 0, 15], &[1, 2, 3], &mut space)?;
+/// assert_eq!(space[..words], [1, 0x001F_0041, 3, 0]);
 /// # Ok::<(), Refusal>(())
 /// ```
 pub fn pack(
@@ -66,8 +75,8 @@ pub fn packed(writes: &[Write]) -> Result<Vec<u32>, Refusal> {
     let ids: Vec<u32> = writes.iter().map(|w| w.id).collect();
     let masks: Vec<u32> = writes.iter().map(|w| w.mask).collect();
     let values: Vec<u32> = writes.iter().map(|w| w.value).collect();
-    // a list is never longer than two words a write, and a longer run is refused before any space is needed
-    let mut space = vec![0; 2 * writes.len().min(RUN_LENGTH_MOST)];
+    // a list is never longer than two words a write plus two, and a longer run is refused before any space is needed
+    let mut space = vec![0; 2 * writes.len().min(RUN_LENGTH_MOST) + 2];
     let words = pack(&ids, &masks, &values, &mut space)?;
     space.truncate(words);
     Ok(space)

@@ -25,6 +25,7 @@ pub(crate) const READER_LENGTH: usize = 12;
 ///
 /// // the next list, without another opening
 /// pieces.feed(&[7, 0x000F_0041]);
+/// pieces.feed(&[0, 0]); // the words of all parts together are a multiple of 4
 /// assert_eq!(pieces.close(), Ok(Counts { writes: 1, differences: 1 }));
 /// assert_eq!(live.cells()[0x41], 7);
 /// ```
@@ -66,7 +67,8 @@ impl<'a> Pieces<'a> {
     }
 
     /// Feeds the next part of the list, of any length, 0 too, and gives how many words have come since the opening or the last close.
-    /// Past 65,536, where the close will refuse 1, that stays at 65,537. What is wrong with the list is told by the close alone.
+    /// Past 65,536, where the close will refuse 1, that stays at 65,537. What is wrong with the list is told by the close alone: only the
+    /// words of all parts together must be a multiple of 4.
     ///
     /// ```
     /// # use pica::State;

@@ -9,9 +9,9 @@ use crate::names;
 /// ```
 /// use pica::{Refusal, State};
 ///
-/// let refusal = State::default().read(&[0, 0x000F_023C]).unwrap_err();
+/// let refusal = State::default().read(&[1, 0x000F_0041, 0, 0x000F_023C]).unwrap_err();
 /// assert_eq!(refusal.number, Refusal::JUMP_REGISTER);
-/// assert_eq!(refusal.place, 0); // the command at fault begins with word 0
+/// assert_eq!(refusal.place, 2); // the command at fault begins with word 2
 /// assert!(refusal.to_string().starts_with("refusal 4: id 23Ch or 23Dh"));
 /// ```
 #[derive(Clone, Copy, Debug, PartialEq, Eq, Hash)]
@@ -50,6 +50,8 @@ impl Refusal {
     pub const CODE_WITHOUT_NAME: u32 = 13;
     /// Not built; the place is the lowest id of a register that asks for it.
     pub const NOT_BUILT: u32 = 14;
+    /// A list whose words are no multiple of 4.
+    pub const ILLEGAL_LENGTH: u32 = 15;
     /// The buffers have fewer places than the list has writes; the place is the places needed.
     pub const TOO_FEW_PLACES: u32 = 22;
 

@@ -87,12 +87,12 @@ impl State {
     }
 
     /// Reads a list of command words into the state, and gives the number of its writes and how many of them made a difference;
-    /// [`Written`] says which ones do.
+    /// [`Written`] says which ones do. Writes with mask 0 are left out.
     ///
     /// # Errors
     ///
-    /// 1; then for each command in turn 2 where its words are not all there, or 3, 4 or 5 by its first write at fault, with the
-    /// index of the command's first word. The state is then as it was.
+    /// 1; 15; then for each command in turn 2 where its words are not all there, or 3, 4 or 5 by its first write at fault, with mask 0
+    /// too, with the index of the command's first word. The state is then as it was.
     ///
     /// ```
     /// use pica::{Refusal, State};
@@ -104,9 +104,14 @@ impl State {
     /// assert_eq!(state.cells()[0x41..0x44], [1, 2, 3]);
     ///
     /// // the same to one register needs no padding either, but it is cut short here
-    /// let refusal = state.read(&[9, 0x000F_0041, 1, 0x002F_0041, 2]).unwrap_err();
+    /// let refusal = state.read(&[9, 0x000F_0041, 1, 0x002F_0041]).unwrap_err();
     /// assert_eq!(refusal, Refusal { number: Refusal::WORDS_MISSING, place: 2 });
     /// assert_eq!(state.cells()[0x41], 1);
+    ///
+    /// // a list that lacks its last pair; with 0 0 its length is legal
+    /// let refusal = state.read(&[9, 0x000F_0041]).unwrap_err();
+    /// assert_eq!(refusal, Refusal { number: Refusal::ILLEGAL_LENGTH, place: 0 });
+    /// assert_eq!(state.read(&[9, 0x000F_0041, 0, 0])?.writes, 1);
     /// # Ok::<(), Refusal>(())
     /// ```
     pub fn read(&mut self, list: &[u32]) -> Result<Counts, Refusal> {
@@ -121,13 +126,13 @@ impl State {
     /// use pica::State;
     ///
     /// // what a capture probe hands over: cut between a first parameter and its header, once nothing at all, and before a padding word
-    /// let parts: [&[u32]; 4] = [&[0, 0x000F_00E6, 0x11], &[], &[0x001F_00E8, 0x22], &[0]];
+    /// let parts: [&[u32]; 4] = [&[0, 0x000F_00E6, 0x11], &[], &[0x001F_00E8, 0x22], &[0, 7, 0x000F_0041]];
     /// let (mut live, mut spare) = (State::default(), State::default());
     /// let mut pieces = live.open(&mut spare);
     /// let come = parts.map(|part| pieces.feed(part));
-    /// assert_eq!(come, [3, 3, 5, 6]);
+    /// assert_eq!(come, [3, 3, 5, 8]);
     /// let read = pieces.close()?; // as `read` of the joined list
-    /// assert_eq!((read.writes, read.differences), (3, 2)); // the fog index was 0 already
+    /// assert_eq!((read.writes, read.differences), (4, 3)); // the fog index was 0 already
     /// assert_eq!(live.fog()[..2], [0x11, 0x22]);
     /// # Ok::<(), pica::Refusal>(())
     /// ```

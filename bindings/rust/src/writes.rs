@@ -5,15 +5,15 @@ use alloc::{vec, vec::Vec};
 use crate::{ffi, Refusal, Write, LIST_LENGTH_MOST};
 
 /// Puts the writes of a list of command words, in their order, at the start of three buffers, and gives their number: write `k`
-/// sets the bytes `masks[k]` of register `ids[k]` to those of `values[k]`. The buffers past the writes keep their contents. They
-/// are what [`pack`](crate::pack) takes.
+/// sets the bytes `masks[k]` of register `ids[k]` to those of `values[k]`. Writes with mask 0 are left out. The buffers past the
+/// writes keep their contents. The writes are what [`pack`](crate::pack) takes.
 ///
 /// No list has more writes than words, so that buffers as long as the list are long enough.
 ///
 /// # Errors
 ///
-/// In this order: 7; 1; for each command in turn 2 where its words are not all there, or 3, 4 or 5 by its first write at fault,
-/// with the index of the command's first word; 22, with the places needed. The buffers are then as they were.
+/// In this order: 7; 1; 15; for each command in turn 2 where its words are not all there, or 3, 4 or 5 by its first write at fault,
+/// with mask 0 too, with the index of the command's first word; 22, with the places needed. The buffers are then as they were.
 ///
 /// ```
 /// use pica::{writes, Refusal};
@@ -47,9 +47,10 @@ pub fn writes(
 /// ```
 /// use pica::{packed, writes_of};
 ///
-/// // two commands where one will do
-/// let list = [1, 0x000F_0041, 2, 0x000F_0042];
+/// // two commands where one will do, and between them one of mask 0, and the pair that fills the list
+/// let list = [1, 0x000F_0041, 9, 0x0000_0107, 2, 0x000F_0042, 0, 0];
 /// let run = writes_of(&list)?;
+/// assert_eq!(run.len(), 2);
 /// assert_eq!((run[1].id, run[1].mask, run[1].value), (0x42, 15, 2));
 /// assert_eq!(packed(&run)?, [1, 0x801F_0041, 2, 0]);
 /// # Ok::<(), pica::Refusal>(())

@@ -2,7 +2,7 @@
 
 use std::{collections::BTreeMap, fs, path::PathBuf};
 
-use pica::{pack, writes_of, Counts, Refusal, State, Write, RUN_LENGTH_MOST};
+use pica::{packed, writes_of, Counts, Refusal, State, Write, RUN_LENGTH_MOST};
 
 fn examples() -> PathBuf {
     PathBuf::from(concat!(env!("CARGO_MANIFEST_DIR"), "/../../examples"))
@@ -16,25 +16,21 @@ fn list(name: &str) -> Vec<u32> {
     bytes.chunks(4).map(word).collect()
 }
 
-/// The words of the shortest list that says a run of at most 4,096 writes: what a call without space names.
-fn shortest(run: &[Write]) -> usize {
-    let part = |of: fn(&Write) -> u32| -> Vec<u32> { run.iter().map(of).collect() };
-    match pack(
-        &part(|w| w.id),
-        &part(|w| w.mask),
-        &part(|w| w.value),
-        &mut [],
-    ) {
-        Err(Refusal {
-            number: Refusal::NO_ROOM,
-            place,
-        }) => place as usize,
-        answer => panic!("no space, and {answer:?}"),
+/// The words of the shortest commands that say a run of at most 4,096 writes, without the pair that fills a list. The packer drops
+/// writes with mask 0, so that a last command with header 0 is that pair.
+fn before_filling(run: &[Write]) -> usize {
+    let list = packed(run).expect("a list's writes can be packed");
+    let (mut at, mut last) = (0, 0);
+    while at < list.len() {
+        last = at;
+        at += ((list[at + 1] >> 20 & 0xFF) as usize + 3) & !1;
     }
+    let is_filled = !list.is_empty() && list[last + 1] == 0;
+    list.len() - if is_filled { 2 } else { 0 }
 }
 
 /// A run in parts that can be packed, each cut off where no command carries both the write before the cut and the one after it: there
-/// the parts' lists, joined, are as short as one list for all of them.
+/// the parts' commands, joined and filled once, are as short as one list for all of them.
 fn parts(mut run: &[Write]) -> Vec<&[Write]> {
     let mut parts = Vec::new();
     while run.len() > RUN_LENGTH_MOST {
@@ -67,7 +63,8 @@ fn row_of(name: &str) -> [String; 5] {
         }) => {
             let run = writes_of(&list).expect("what is read has writes");
             assert_eq!(run.len(), writes, "{name}");
-            let shortest: usize = parts(&run).into_iter().map(shortest).sum();
+            let commands: usize = parts(&run).into_iter().map(before_filling).sum();
+            let shortest = commands.next_multiple_of(4);
             let [writes, differences, shortest] =
                 [writes, differences, shortest].map(|number| number.to_string());
             [words, writes, differences, "ok".to_string(), shortest]

@@ -127,11 +127,12 @@ fn of_an_index() {
 fn of_lists() {
     let cases: [(&[u32], Counts); 6] = [
         (&[], counted(0, 0)),
-        (&[1, 0x003F_0041, 1, 0, 0, 0], counted(4, 2)),
+        (&[1, 0x003F_0041, 1, 0, 0, 0, 0, 0], counted(4, 2)),
         (&[0, 0x801F_0041, 0, 0], counted(2, 0)),
-        (&[0; 6], counted(3, 0)),
+        // of mask 0, and so no writes
+        (&[0; 8], counted(0, 0)),
         // E6 and E7, then the fog entries 0 and 1: all of them hold 0 already, but the index moves
-        (&[0, 0x803F_00E6, 0, 0, 0, 0], counted(4, 2)),
+        (&[0, 0x803F_00E6, 0, 0, 0, 0, 0, 0], counted(4, 2)),
         // 11C isn't held
         (&[1, 0x000F_0041, 1, 0x000F_011C], counted(2, 1)),
     ];
@@ -147,7 +148,8 @@ fn of_a_list_that_is_read_again() {
         let mut state = State::default();
         [(); 3].map(|()| state.read(list).unwrap().differences)
     };
-    assert_eq!(again(&[1, 0x802F_0041, 2, 3, 0xFF, 0x0001_0107]), [4, 0, 0]);
+    let once = [1, 0x802F_0041, 2, 3, 0xFF, 0x0001_0107, 0, 0];
+    assert_eq!(again(&once), [4, 0, 0]);
     assert_eq!(again(&[5, 0x001F_0041, 6, 0]), [2, 2, 2]);
     assert_eq!(again(&[5, 0x001F_0041, 0, 0]), [2, 2, 2]);
     assert_eq!(again(&[0x40, 0x000F_00E6, 5, 0x000F_00E8]), [2, 2, 2]);
@@ -162,6 +164,7 @@ fn at_random() {
         seed = seed.wrapping_mul(6_364_136_223_846_793_005).wrapping_add(1);
         (seed >> 33) as u32 % below
     };
+    let mut dropped = 0;
     for round in 0..200 {
         let start = if round % 2 == 0 {
             State::default()
@@ -182,7 +185,8 @@ fn at_random() {
             })
             .collect();
         let list = packed(&run).unwrap();
-        assert_eq!(writes_of(&list).unwrap(), run);
+        let kept: Vec<Write> = run.iter().copied().filter(|w| w.mask != 0).collect();
+        assert_eq!(writes_of(&list).unwrap(), kept);
 
         let (mut one_by_one, mut differences) = (start.clone(), 0);
         for &w in &run {
@@ -191,9 +195,10 @@ fn at_random() {
             assert_eq!(differs, one_by_one != before, "{w:X?}");
             differences += usize::from(differs);
         }
-        assert!(0 < differences && differences < run.len());
+        assert!(0 < differences && differences < kept.len());
+        dropped += run.len() - kept.len();
 
-        let counts = counted(run.len(), differences);
+        let counts = counted(kept.len(), differences);
         let mut read = start.clone();
         assert_eq!(read.read(&list), Ok(counts));
         assert_eq!(read, one_by_one);
@@ -206,4 +211,6 @@ fn at_random() {
         assert_eq!(pieces.close(), Ok(counts));
         assert_eq!(live, read);
     }
+    // some had mask 0, and are in no count
+    assert!(dropped > 0);
 }

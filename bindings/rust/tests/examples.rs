@@ -142,17 +142,17 @@ fn modulate_and_dot3() {
 fn the_shortest_list() {
     assert_eq!(
         packed(&run(&[0x41, 0x41, 0x42, 0x43])).unwrap(),
-        [1, 0x000F_0041, 2, 0x802F_0041, 3, 4]
+        [1, 0x000F_0041, 2, 0x802F_0041, 3, 4, 0, 0]
     );
     assert_eq!(
         packed(&run(&[0x41, 0x41, 0x42])).unwrap(),
-        [1, 0x001F_0041, 2, 0, 3, 0x000F_0042]
+        [1, 0x001F_0041, 2, 0, 3, 0x000F_0042, 0, 0]
     );
 }
 
 #[test]
 fn a_command_carries_256_writes() {
-    for (writes, words) in [(256, 258), (257, 260)] {
+    for (writes, words) in [(256, 260), (257, 260), (258, 260), (259, 264)] {
         let equal = run(&vec![0x41; writes]);
         let list = packed(&equal).unwrap();
         assert_eq!(list.len(), words);
@@ -172,11 +172,11 @@ fn the_empty_list() {
     assert_eq!(pica::pack(&[], &[], &[], &mut []), Ok(0));
     assert_eq!(
         pica::pack(&[0x41], &[15], &[7], &mut []),
-        Err(refused(10, 2))
+        Err(refused(10, 4))
     );
 }
 
-/// The default write sets no byte.
+/// The default write sets no byte, and is in no list.
 #[test]
 fn the_default_write() {
     let mut state = State::default();
@@ -185,4 +185,5 @@ fn the_default_write() {
     let Write { id, mask, value } = Write::default();
     assert!(!state.write(id, mask, value).unwrap().made_a_difference);
     assert_eq!(state, before);
+    assert_eq!(packed(&[Write::default()]), Ok(vec![]));
 }

@@ -126,7 +126,7 @@ macro_rules! constants {
 fn refusals() {
     let constants = constants! {
         LIST_TOO_LONG WORDS_MISSING ID_ABOVE_2FF JUMP_REGISTER PORT_MASK BUFFER_LENGTH LENGTHS_DIFFER TOO_MANY_WRITES
-        MASK_ABOVE_15 NO_ROOM DEPTH_ABOVE_LARGEST CODE_WITHOUT_NAME NOT_BUILT TOO_FEW_PLACES
+        MASK_ABOVE_15 NO_ROOM DEPTH_ABOVE_LARGEST CODE_WITHOUT_NAME NOT_BUILT ILLEGAL_LENGTH TOO_FEW_PLACES
     };
     let named = (0..64).filter_map(|number| Some((number, refusal_name(number)?)));
     assert_eq!(named.collect::<Vec<_>>(), constants);

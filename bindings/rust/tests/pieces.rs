@@ -29,16 +29,27 @@ fn assert_read(parts: &[&[u32]]) {
 }
 
 /// Short lists, of every verdict but 1.
-const LISTS: [&[u32]; 8] = [
+const LISTS: [&[u32]; 16] = [
     &[],
     &[2, 0x000F_0040, 1, 0x801F_0041, 2, 0, 7, 0x0003_0107],
     &[0x7F, 0x000F_00E6, 1, 0x002F_00E8, 2, 3, 9, 0x000F_0041],
-    &[5, 0x000F_0041, 6, 0x002F_0041, 7],
+    &[5, 0x000F_0041, 6, 0x005F_0041, 7, 8, 9, 10],
     &[5, 0x000F_0041, 6, 0x801F_02FF, 7, 0, 8, 0x000F_0042],
     &[5, 0x000F_0041, 6, 0x801F_023B, 7, 0, 8, 0x000F_0042],
-    &[5, 0x000F_0041, 6, 0x8027_00E7, 7, 8, 9],
+    &[5, 0x000F_0041, 6, 0x8027_00E7, 7, 8, 9, 0x000F_0042],
     // its second write is at fault, and its words are not all there: 2
-    &[5, 0x000F_0041, 6, 0x803F_023B, 7, 8],
+    &[5, 0x000F_0041, 6, 0x805F_023B, 7, 8, 9, 10],
+    // mask 0, between writes and behind them: no writes of the list
+    &[5, 0x000F_0041, 6, 0x8010_01C5, 7, 0, 8, 0x000F_0042],
+    &[5, 0x801F_0041, 6, 0, 9, 0x0000_0107, 0, 0],
+    // mask 0, and its second write is at fault
+    &[5, 0x000F_0041, 6, 0x8010_023B, 7, 0, 8, 0x000F_0042],
+    // words that are no multiple of 4, before any other fault
+    &[5],
+    &[5, 0x000F_0041],
+    &[5, 0x000F_0041, 6],
+    &[0, 0x000F_023C, 6, 0x000F_0300, 7],
+    &[0, 0x000F_023C, 6, 0x8027_00E7, 7, 8],
 ];
 
 #[test]
@@ -98,7 +109,7 @@ fn counted(writes: usize, differences: usize) -> Result<Counts, Refusal> {
 /// The next list, without another opening: it sets 41.
 fn assert_next_list(pieces: &mut pica::Pieces, value: u32) {
     assert_eq!(pieces.feed(&[value]), 1);
-    assert_eq!(pieces.feed(&[0x000F_0041]), 2);
+    assert_eq!(pieces.feed(&[0x000F_0041, 0, 0]), 4);
     assert_eq!(pieces.close(), counted(1, 1));
     assert_eq!(pieces.live().cells()[0x41] & 0xFF_FFFF, value);
 }
@@ -110,6 +121,9 @@ fn a_refusal_leaves_the_live_state_and_the_next_list_can_be_fed() {
         (LISTS[4], 3, 2),
         (LISTS[5], 4, 2),
         (LISTS[6], 5, 2),
+        (LISTS[10], 4, 2),
+        (LISTS[12], 15, 0),
+        (LISTS[15], 15, 0),
     ] {
         let (mut live, mut spare) = (marked(), State::default());
         let mut pieces = live.open(&mut spare);
@@ -143,8 +157,8 @@ fn the_limit_is_on_the_joined_length() {
     let mut pieces = live.open(&mut spare);
     assert_eq!(pieces.feed(&vec![0; LIST_LENGTH_MOST - 2]), 65_534);
     assert_eq!(pieces.feed(&[9, 0x000F_0041]), 65_536);
-    assert_eq!(pieces.close(), counted(32_768, 1));
-    // a fault that came early is told as long as the list isn't too long, and not beyond
+    assert_eq!(pieces.close(), counted(1, 1)); // zeros are of mask 0
+                                               // a fault that came early is told as long as the list isn't too long, and not beyond
     pieces.feed(&jump);
     assert_eq!(pieces.feed(&vec![0; LIST_LENGTH_MOST - 2]), 65_536);
     assert_eq!(pieces.close(), refused(4, 0));
@@ -155,6 +169,34 @@ fn the_limit_is_on_the_joined_length() {
     assert_eq!(pieces.feed(&[]), 65_537);
     assert_eq!(pieces.close(), refused(1, 0));
     assert_next_list(&mut pieces, 3);
+}
+
+/// 15 is told by the words of all parts, after 1 and before any command.
+#[test]
+fn a_joined_length_that_is_no_multiple_of_4() {
+    let (mut live, mut spare) = (marked(), marked());
+    let mut pieces = live.open(&mut spare);
+    for (length, close) in [
+        (65_532, counted(1, 1)),
+        (65_533, refused(15, 0)),
+        (65_534, refused(15, 0)),
+        (65_535, refused(15, 0)),
+        (65_536, counted(1, 1)),
+        (65_537, refused(1, 0)),
+        (65_538, refused(1, 0)),
+        (65_540, refused(1, 0)),
+    ] {
+        let value = length as u32;
+        assert_eq!(pieces.feed(&[value, 0x000F_0041]), 2);
+        pieces.feed(&vec![0; length - 2]);
+        assert_eq!(pieces.close(), close, "{length} words");
+        if close.is_ok() {
+            assert_eq!(pieces.live().cells()[0x41] & 0xFF_FFFF, value);
+        }
+    }
+    // what was refused has left nothing
+    assert_eq!(pieces.close(), counted(0, 0));
+    assert_eq!(live.cells()[0x41] & 0xFF_FFFF, 65_536);
 }
 
 #[test]

@@ -36,7 +36,13 @@ fn of_lists() {
         "list over 65,536 words",
     );
     assert_refused(
-        state.read(&[7, 0x000F_0041, 7]),
+        state.read(&one),
+        15,
+        0,
+        "list whose words aren't a multiple of 4",
+    );
+    assert_refused(
+        state.read(&after_one(0x001F_0041)),
         2,
         2,
         "a command needs more words than are left, the command whose first word is word 2",
@@ -125,6 +131,13 @@ fn of_runs() {
     );
     assert_refused(
         pack(&[0x41, 0x43], &[15; 2], &[0; 2], &mut space[..3]),
+        10,
+        4,
+        "space shorter than the shortest list, 4 words needed",
+    );
+    // two words, and the pair that fills the list
+    assert_refused(
+        pack(&[0x41], &[15], &[0], &mut space[..3]),
         10,
         4,
         "space shorter than the shortest list, 4 words needed",

@@ -36,7 +36,7 @@ fn of_rising_and_of_equal_ids() {
     ];
     assert_eq!(writes_of(&rising).unwrap(), three);
     // the padding word, any of them, is no write; nor does the next command's mask reach back
-    let equal = [1, 0x7013_0041, 2, MARK, 3, 0x000F_0042];
+    let equal = [1, 0x7013_0041, 2, MARK, 3, 0x000F_0042, 0, 0];
     let three = [write(0x41, 3, 1), write(0x41, 3, 2), write(0x42, 15, 3)];
     assert_eq!(writes_of(&equal).unwrap(), three);
 }
@@ -45,7 +45,9 @@ fn of_rising_and_of_equal_ids() {
 fn of_no_words_and_of_zeros() {
     assert_eq!(writes_of(&[]), Ok(vec![]));
     assert_eq!(writes(&[], &mut [], &mut [], &mut []), Ok(0));
-    assert_eq!(writes_of(&[0; 6]).unwrap(), [Write::default(); 3]);
+    // zeros are commands of mask 0, and no place is needed for them
+    assert_eq!(writes_of(&[0; 8]), Ok(vec![]));
+    assert_eq!(writes(&[0; 8], &mut [], &mut [], &mut []), Ok(0));
 }
 
 #[test]
@@ -64,14 +66,14 @@ fn room_to_spare_is_kept_and_exact_room_is_enough() {
 #[test]
 fn refusals_of_the_list() {
     let room = [LIST_LENGTH_MOST; 3];
-    assert_refused(&vec![0; LIST_LENGTH_MOST + 1], room, 1, 0);
-    assert_refused(&[7, 0x000F_0041, 7], room, 2, 2);
-    assert_refused(&[7, 0x000F_0041, 1, 0x002F_0041, 2], room, 2, 2);
+    assert_refused(&vec![0; LIST_LENGTH_MOST + 4], room, 1, 0);
+    assert_refused(&[7, 0x000F_0041, 7], room, 15, 0);
+    assert_refused(&[7, 0x000F_0041, 1, 0x002F_0041], room, 2, 2);
     for (header, number) in [(0x000F_0300, 3), (0x000F_023C, 4), (0x0007_01C8, 5)] {
         assert_refused(&[7, 0x000F_0041, 0, header], room, number, 2);
     }
     // the first write at fault decides, however deep it is: 1C8 with mask 3 before 23C
-    let mut deep = vec![0; 202];
+    let mut deep = vec![0; 204];
     deep[1] = 0x8C83_01C0;
     assert_refused(&deep, room, 5, 0);
 }
@@ -92,12 +94,14 @@ fn refusals_of_the_buffers() {
 #[test]
 fn refusals_in_their_order() {
     let long = vec![0; LIST_LENGTH_MOST + 2];
-    let cut = [7, 0x000F_0041, 7];
+    let odd = [0, 0x000F_023C];
+    let cut = [7, 0x000F_0041, 1, 0x003F_0041];
     let jump = [7, 0x000F_0041, 0, 0x000F_023C];
-    for list in [&long[..], &cut, &jump] {
+    for list in [&long[..], &odd, &cut, &jump] {
         assert_refused(list, [1, 0, 0], 7, 0);
     }
     assert_refused(&long, [0; 3], 1, 0);
+    assert_refused(&odd, [0; 3], 15, 0);
     assert_refused(&cut, [0; 3], 2, 2);
     assert_refused(&jump, [0; 3], 4, 2);
 }

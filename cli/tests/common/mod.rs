@@ -126,12 +126,19 @@ pub fn bytes_of(words: &[u32]) -> Vec<u8> {
     words.iter().flat_map(|word| word.to_le_bytes()).collect()
 }
 
-/// A list of one command a write, all of mask F: two words each.
+/// A list of one command a write, all of mask F: two words each, and a pair where that is no multiple of 4.
 pub fn apart(ids: impl IntoIterator<Item = u32>) -> Vec<u32> {
-    ids.into_iter()
+    let commands = ids
+        .into_iter()
         .zip(1..)
-        .flat_map(|(id, value)| [value, 0x000F_0000 | id])
-        .collect()
+        .flat_map(|(id, value)| [value, 0x000F_0000 | id]);
+    filled(commands.collect())
+}
+
+/// A list with words 0 behind it to a multiple of 4.
+pub fn filled(mut words: Vec<u32>) -> Vec<u32> {
+    words.resize(words.len().next_multiple_of(4), 0);
+    words
 }
 
 /// The repository's sample lists.

@@ -10,7 +10,13 @@ use super::{bytes, file, list, show};
 fn what_is_no_accepted_list() {
     let cut = file("show-cut.bin", &[1, 2, 3]);
     let fine = file("show-fine.bin", &list(&[(0x40, 15, 1)]));
-    let cases: [(&[&str], i32, &str); 6] = [
+    let pair = file("show-pair.bin", &bytes(&[1, 0x000F_0040]));
+    let cases: [(&[&str], i32, &str); 7] = [
+        (
+            &[&pair],
+            1,
+            "refused 15: a list whose words are no multiple of 4; ",
+        ),
         (&["examples/jump.bin"], 1, "refused 4 at word 2"),
         (
             &[&fine, "--from", "examples/jump.bin"],

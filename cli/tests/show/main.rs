@@ -28,10 +28,12 @@ fn bytes(words: &[u32]) -> Vec<u8> {
     words.iter().flat_map(|word| word.to_le_bytes()).collect()
 }
 
-/// A list of single writes: id, mask, value.
+/// A list of single writes: id, mask, value; and the pair that fills it.
 fn list(writes: &[(u32, u32, u32)]) -> Vec<u8> {
     let command = |&(id, mask, value): &(u32, u32, u32)| [value, mask << 16 | id];
-    bytes(&writes.iter().flat_map(command).collect::<Vec<u32>>())
+    let mut words: Vec<u32> = writes.iter().flat_map(command).collect();
+    words.resize(words.len().next_multiple_of(4), 0);
+    bytes(&words)
 }
 
 fn file(name: &str, bytes: &[u8]) -> String {
@@ -81,14 +83,24 @@ fn only_the_bytes_that_a_mask_names_are_set() {
         ],
     );
     assert!(!lines.iter().any(|line| line.contains("tests_depth_enable")));
-    let (_, lines) = shown(&[(0x100, 4, u32::MAX), (0x40, 0, 3)], &[]);
+    let (_, lines) = shown(&[(0x100, 4, u32::MAX)], &[]);
     assert_has(
         &lines,
-        &[
-            "100 GPUREG_COLOR_OPERATION 00000000 writes: 1, none to a byte with held bits",
-            "040 GPUREG_FACECULLING_CONFIG 00000000 writes: 1, none to a byte with held bits",
-        ],
+        &["100 GPUREG_COLOR_OPERATION 00000000 writes: 1, none to a byte with held bits"],
     );
+}
+
+/// Neither a held register nor one that isn't: nothing of such a write is shown, nor is it counted.
+#[test]
+fn writes_with_mask_0_are_left_out() {
+    let (status, lines) = shown(&[(0x40, 0, 3), (0x10, 0, 1)], &[]);
+    assert_eq!(status, 0);
+    let head = "-: 0 writes, 4 words, against a state of zeros (sets nothing: every mask is 0)";
+    assert_eq!(lines, [head, "", "Nothing that is held is set."]);
+
+    let plain = shown(&[(0x40, 15, 3), (0x10, 15, 1)], &["--json"]);
+    let mixed = [(0x42, 0, 5), (0x40, 15, 3), (0x40, 0, 1), (0x10, 15, 1)];
+    assert_eq!(shown(&mixed, &["--json"]), plain);
 }
 
 #[test]

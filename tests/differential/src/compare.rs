@@ -1,161 +1,15 @@
 //! Runs cases on two machines and compares all that they leave behind.
 
-use crate::generate::{fresh_state, next_case, Case, Kind, KINDS};
+use crate::generate::{fresh_state, next_case, Case, Kind};
 use crate::machine::Machine;
 use crate::memory::{locate, parts, Memory};
 use crate::model::HELD;
 use crate::random::Random;
 use crate::sessions;
+use crate::tally::{Answer, Tally, Told};
 
 /// Cases that share one garbage state; each block can be run alone.
 pub const BLOCK: u64 = 250;
-
-const NUMBERS: usize = 23;
-
-/// The refusals that a whole run has to meet. 11 and 15 to 21 aren't used.
-const REFUSALS: [usize; 14] = [1, 2, 3, 4, 5, 6, 7, 8, 9, 10, 12, 13, 14, 22];
-
-/// What a call gave back, and how many writes of its list made a difference,
-/// where it has a list that wasn't refused.
-#[derive(Clone, Copy)]
-pub struct Answer {
-    pub given: u64,
-    pub differences: u32,
-}
-
-impl Answer {
-    fn number(&self) -> usize {
-        (self.given >> 32) as usize
-    }
-}
-
-#[derive(Clone, Default)]
-pub struct Tally {
-    cases: [u64; KINDS.len()],
-    answered: [u64; KINDS.len()],
-    refused: [u64; NUMBERS],
-    verdicts: [u64; 4],
-    closes: [u64; 7],
-    /// Of the lists with writes, read at once and in pieces: how many made no
-    /// difference, some, and one with each write.
-    read: [u64; 3],
-    in_pieces: [u64; 3],
-    /// Single writes, by their answer.
-    alone: [u64; 2],
-}
-
-/// Counts a list that was read.
-fn count_differences(lists: &mut [u64; 3], writes: usize, differences: usize) {
-    match differences {
-        _ if writes == 0 => {}
-        0 => lists[0] += 1,
-        all if all == writes => lists[2] += 1,
-        _ => lists[1] += 1,
-    }
-}
-
-impl Tally {
-    /// Counts a case: a call's answer, or a session's closes, of which the last
-    /// one says whether the session was answered.
-    fn count(&mut self, kind: Kind, answers: &[Answer]) {
-        self.cases[kind as usize] += 1;
-        self.answered[kind as usize] +=
-            u64::from(answers.last().is_some_and(|last| last.number() == 0));
-        for answer in answers {
-            let (number, low) = (answer.number(), answer.given as u32 as usize);
-            let differences = answer.differences as usize;
-            self.refused[number] += 1;
-            if kind == Kind::Pieces {
-                self.closes[number] += 1;
-            }
-            match kind {
-                _ if number != 0 => {}
-                Kind::Fragment => self.verdicts[low] += 1,
-                Kind::Read => count_differences(&mut self.read, low, differences),
-                Kind::Pieces => count_differences(&mut self.in_pieces, low, differences),
-                Kind::Write => self.alone[low] += 1,
-                _ => {}
-            }
-        }
-    }
-
-    pub fn add(&mut self, other: &Tally) {
-        let pairs = |mine: &mut [u64], theirs: &[u64]| {
-            mine.iter_mut().zip(theirs).for_each(|(a, b)| *a += b);
-        };
-        pairs(&mut self.cases, &other.cases);
-        pairs(&mut self.answered, &other.answered);
-        pairs(&mut self.refused, &other.refused);
-        pairs(&mut self.verdicts, &other.verdicts);
-        pairs(&mut self.closes, &other.closes);
-        pairs(&mut self.read, &other.read);
-        pairs(&mut self.in_pieces, &other.in_pieces);
-        pairs(&mut self.alone, &other.alone);
-    }
-
-    pub fn text(&self) -> String {
-        let kinds = KINDS.map(|(kind, name)| {
-            let (cases, answered) = (self.cases[kind as usize], self.answered[kind as usize]);
-            format!("{name} {cases} ({answered} answered)")
-        });
-        let refused = REFUSALS.map(|number| format!("{number}:{}", self.refused[number]));
-        let row = |counts: &[u64]| -> String {
-            let counts: Vec<String> = counts.iter().map(u64::to_string).collect();
-            counts.join("/")
-        };
-        format!(
-            "{}; verdicts {}; closes {}; differences by none, some, all writes {}, in pieces {}, \
-             single writes without, with {}; refused {}",
-            kinds.join(", "),
-            row(&self.verdicts),
-            row(&self.closes),
-            row(&self.read),
-            row(&self.in_pieces),
-            row(&self.alone),
-            refused.join(" ")
-        )
-    }
-
-    /// What a run should have met and didn't: a generator that only makes
-    /// refusals, or never makes one of them, tests too little.
-    pub fn lacks(&self) -> Vec<String> {
-        let mut lacks = Vec::new();
-        for (kind, name) in KINDS {
-            if self.answered[kind as usize] * 5 < self.cases[kind as usize] {
-                lacks.push(format!("under a fifth of {name} answered"));
-            }
-        }
-        for number in REFUSALS {
-            if self.refused[number] == 0 {
-                lacks.push(format!("refusal {number} not met"));
-            }
-        }
-        for (verdict, &count) in self.verdicts.iter().enumerate() {
-            if count == 0 {
-                lacks.push(format!("verdict {verdict} not met"));
-            }
-        }
-        for (number, &count) in self.closes.iter().enumerate() {
-            if count == 0 {
-                lacks.push(format!("close with {number} not met"));
-            }
-        }
-        let judged: [(&str, &[u64]); 3] = [
-            ("lists", &self.read),
-            ("lists in pieces", &self.in_pieces),
-            ("single writes", &self.alone),
-        ];
-        for (name, counts) in judged {
-            let all: u64 = counts.iter().sum();
-            if counts.iter().any(|count| count * 20 < all) {
-                lacks.push(format!(
-                    "under a twentieth of {name} of a kind by differences"
-                ));
-            }
-        }
-        lacks
-    }
-}
 
 /// The first case at which two machines differ.
 pub struct Difference {
@@ -347,17 +201,31 @@ impl<'a> Pair<'a> {
         let library = call(self.library, case, left);
         let given = call(self.model, case, right);
         same(library, given, word_text(case, left, right))?;
-        let differences = match case.kind {
-            Kind::Read => parts(&mut right.lent, [case.lent[0], case.lent[1]])[1][0],
-            _ => 0,
-        };
-        Ok(vec![Answer { given, differences }])
+        let mut answer = Answer::new(given);
+        match case.kind {
+            Kind::Read => {
+                let [list, differences] = parts(&mut right.lent, [case.lent[0], case.lent[1]]);
+                answer.differences = differences[0];
+                answer.told = Told::of_list(list, given);
+            }
+            Kind::Writes => {
+                let [list] = parts(&mut right.lent, [case.lent[0]]);
+                answer.told = Told::of_list(list, given);
+            }
+            Kind::Pack => {
+                let [_, masks] = parts(&mut right.lent, [case.lent[0], case.lent[1]]);
+                answer.told = Told::of_run(masks);
+            }
+            _ => {}
+        }
+        Ok(vec![answer])
     }
 }
 
 #[cfg(test)]
 mod tests {
     use super::*;
+    use crate::generate::KINDS;
 
     /// A store where none may be shows wherever it lands: each word of a
     /// layout, changed alone, is told, and a guard as a guard.

@@ -45,6 +45,16 @@ impl Machine {
         }
     }
 
+    /// The model with a fault in reading a list alone.
+    pub fn in_reading<const F: u32>() -> Machine {
+        Machine {
+            read: |[cells, fog, light], list, differences| {
+                model::read::<F>(cells, fog, light, list, differences)
+            },
+            ..Machine::model::<NONE>()
+        }
+    }
+
     /// The model with a fault in lists that arrive in pieces.
     pub fn in_pieces<const F: u32>() -> Machine {
         Machine {

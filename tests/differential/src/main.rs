@@ -8,14 +8,16 @@ mod memory;
 mod model;
 mod random;
 mod sessions;
+mod tally;
 
 use std::process::ExitCode;
 use std::thread;
 
-use compare::{Difference, Pair, Tally, BLOCK};
+use compare::{Difference, Pair, BLOCK};
 use library::LIBRARY;
 use machine::Machine;
-use model::faults::{faulty_machines, FAULTS, NONE};
+use model::faults::{planted, Planted, NONE};
+use tally::Tally;
 
 const DEFAULT_CASES: u64 = 1_000_000;
 const DEFAULT_SEED: u64 = 2026;
@@ -120,19 +122,19 @@ fn differential(options: &Options) -> ExitCode {
     }
 }
 
-/// The difference that shows each planted fault, in the order of `FAULTS`.
+/// The difference that shows each planted fault, in their order.
 fn bite(seed: u64) -> Vec<Option<Difference>> {
     let halves: Vec<_> = (0..WORKERS as usize)
         .map(|worker| {
             thread::spawn(move || {
-                let machines = faulty_machines();
-                let mine = machines.iter().skip(worker).step_by(WORKERS as usize);
-                mine.map(|machine| run(machine, TEETH_CASES, seed, 0, 1).err())
+                let faults = planted();
+                let mine = faults.iter().skip(worker).step_by(WORKERS as usize);
+                mine.map(|fault| run(&fault.machine, TEETH_CASES, seed, 0, 1).err())
                     .collect::<Vec<_>>()
             })
         })
         .collect();
-    let mut found: Vec<Option<Difference>> = FAULTS.iter().map(|_| None).collect();
+    let mut found: Vec<Option<Difference>> = planted().iter().map(|_| None).collect();
     for (worker, half) in halves.into_iter().enumerate() {
         let half = half.join().expect("a worker ends with a result");
         for (index, difference) in half.into_iter().enumerate() {
@@ -156,7 +158,7 @@ fn teeth(options: &Options) -> ExitCode {
         return ExitCode::FAILURE;
     }
     let mut missed = Vec::new();
-    for ((number, name), difference) in FAULTS.iter().zip(&found) {
+    for (Planted { number, name, .. }, difference) in planted().iter().zip(&found) {
         match difference {
             None => missed.push(format!("{number} {name}")),
             Some(difference) if options.verbose => {
@@ -165,7 +167,7 @@ fn teeth(options: &Options) -> ExitCode {
             Some(_) => {}
         }
     }
-    let (all, bitten) = (FAULTS.len(), FAULTS.len() - missed.len());
+    let (all, bitten) = (found.len(), found.len() - missed.len());
     if missed.is_empty() {
         println!("teeth: {bitten} of {all} planted faults found");
         ExitCode::SUCCESS

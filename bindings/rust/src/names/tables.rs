@@ -495,13 +495,13 @@ pub static HELD: [(u32, u32); 66] = [
 ];
 
 /// The refusals, numbers ascending.
-pub static REFUSALS: [RefusalText; 14] = [
+pub static REFUSALS: [RefusalText; 15] = [
     RefusalText {
         number: 1,
         name: "LIST_TOO_LONG",
         reason: "list over 65,536 words",
         text: "a list over 65,536 words",
-        advice: "cut the capture at a command's end",
+        advice: "cut the capture at a command's end, and fill each part with 0 to a multiple of 4 words",
     },
     RefusalText {
         number: 2,
@@ -522,7 +522,7 @@ pub static REFUSALS: [RefusalText; 14] = [
         name: "JUMP_REGISTER",
         reason: "id 23Ch or 23Dh",
         text: "a write to a jump register, 23Ch or 23Dh",
-        advice: "cut the list before the command at the place given; the list that it jumps to is read by itself",
+        advice: "cut the list before the place given, and fill it with 0 to a multiple of 4 words; the list jumped to is read by itself",
     },
     RefusalText {
         number: 5,
@@ -550,7 +550,7 @@ pub static REFUSALS: [RefusalText; 14] = [
         name: "TOO_MANY_WRITES",
         reason: "over 4,096 writes",
         text: "over 4,096 writes",
-        advice: "pack the run in parts: their lists, joined, say it in one list up to 65,536 words, with at most two words more a seam",
+        advice: "pack the run in parts: their lists, joined, say it in one list up to 65,536 words, with at most four words more a seam",
     },
     RefusalText {
         number: 9,
@@ -586,6 +586,13 @@ pub static REFUSALS: [RefusalText; 14] = [
         reason: "not built",
         text: "not built, at the place's register: E0 fog mode not 0; 100 mode not 0, bit 8, 24 or 25 set; 117 not size 2 with format 0",
         advice: "the fragment's result isn't told for such a state",
+    },
+    RefusalText {
+        number: 15,
+        name: "ILLEGAL_LENGTH",
+        reason: "list whose words aren't a multiple of 4",
+        text: "a list whose words are no multiple of 4",
+        advice: "the list was cut short, or lacks its last pair; where its words are even in number, a pair 0 0 behind them fills it",
     },
     RefusalText {
         number: 22,

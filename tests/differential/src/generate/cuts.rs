@@ -43,7 +43,7 @@ fn in_some_commands(random: &mut Random, list: &[u32]) -> Vec<usize> {
 
 /// About the largest length, where the list is that long.
 fn at_the_limit(random: &mut Random, list: &[u32]) -> Vec<usize> {
-    let near = [1, 2, 65_534, 65_535, 65_536, 65_537, 65_538];
+    let near = [1, 2, 65_532, 65_534, 65_535, 65_536, 65_537, 65_538];
     let mut cuts: Vec<usize> = (0..random.below(4)).map(|_| random.pick(&near)).collect();
     for _ in 0..random.below(3) {
         cuts.push(random.below(list.len() as u32 + 1) as usize);
@@ -95,6 +95,10 @@ pub fn parts(random: &mut Random, list: &[u32]) -> Vec<Vec<u32>> {
     }
     if start < list.len() || random.chance(1, 2) {
         parts.push(list[start..].to_vec());
+    }
+    // Closed too early: what has come is often of illegal length.
+    if random.chance(1, 16) {
+        parts.pop();
     }
     parts
 }

@@ -1,130 +1,12 @@
 //! Lists of commands, good and bad.
 
+use super::commands::{bad_command, good_command, idle_command, Command};
+use super::filling::finish;
 use super::restated::{restate_some, Foreseen};
-use super::words;
 use crate::memory::Memory;
-use crate::model::{allowed, faults::NONE};
 use crate::random::Random;
 
 const LONGEST_LIST: usize = 65_536;
-
-#[derive(Clone, Copy)]
-struct Command {
-    id: u32,
-    mask: u32,
-    extra: u32,
-    consecutive: bool,
-}
-
-impl Command {
-    fn allowed_writes(&self) -> u32 {
-        let step = u32::from(self.consecutive);
-        let allowed = |write: &u32| allowed::<NONE>(self.id + step * write, self.mask).is_ok();
-        (0..=self.extra).take_while(allowed).count() as u32
-    }
-
-    /// With garbage in the unused bits and in the padding word.
-    fn push(&self, random: &mut Random, list: &mut Vec<u32>) {
-        let unused = if random.chance(1, 2) {
-            random.below(8)
-        } else {
-            0
-        };
-        list.push(words::value(random));
-        list.push(
-            self.id
-                | self.mask << 16
-                | self.extra << 20
-                | unused << 28
-                | u32::from(self.consecutive) << 31,
-        );
-        for _ in 0..self.extra {
-            list.push(words::value(random));
-        }
-        if self.extra % 2 == 1 {
-            list.push(random.word());
-        }
-    }
-}
-
-fn extra(random: &mut Random) -> u32 {
-    match random.below(16) {
-        0..=5 => 0,
-        6..=10 => random.between(1, 4),
-        11..=13 => random.between(5, 20),
-        14 => random.below(256),
-        _ => random.pick(&[126, 127, 128, 129, 254, 255]),
-    }
-}
-
-fn any_command(random: &mut Random) -> Command {
-    Command {
-        id: words::id(random),
-        mask: words::mask(random),
-        extra: extra(random),
-        consecutive: random.chance(1, 2),
-    }
-}
-
-/// A command all of whose writes are allowed: another one, cut short where
-/// its first write at fault stands.
-fn good_command(random: &mut Random) -> Command {
-    loop {
-        let mut command = any_command(random);
-        if random.chance(1, 2) && allowed::<NONE>(command.id, command.mask) == Err(5) {
-            command.mask = 0xF;
-        }
-        let writes = command.allowed_writes();
-        if writes > 0 {
-            command.extra = writes - 1;
-            return command;
-        }
-    }
-}
-
-/// A command that reaches `fault` after some writes, or with its first.
-fn reaching(random: &mut Random, fault: u32, mask: u32) -> Command {
-    let before = random.pick(&[0, 0, 1, 2, 3, 10, 100, 255]).min(fault);
-    Command {
-        id: fault - before,
-        mask,
-        extra: random.between(before, 255),
-        consecutive: before > 0 || random.chance(1, 2),
-    }
-}
-
-/// A command with a write at fault.
-fn bad_command(random: &mut Random) -> Command {
-    let mask = words::mask(random);
-    match random.below(7) {
-        0 => Command {
-            id: random.pick(&[0x300, 0x301, 0x1041, 0x8041, 0xFFFF, 0x33C]),
-            ..any_command(random)
-        },
-        1 => reaching(random, 0x300, mask),
-        2 | 3 => {
-            let jump = random.pick(&words::JUMPS);
-            reaching(random, jump, mask)
-        }
-        4 => Command {
-            id: words::port_data(random),
-            mask: random.below(15),
-            ..any_command(random)
-        },
-        5 => {
-            let data = words::port_data(random);
-            let mask = random.below(15);
-            reaching(random, data, mask)
-        }
-        // Two faults in one command: the port's comes first.
-        _ => Command {
-            id: random.between(0x1C0, 0x1C8),
-            mask: random.below(15),
-            extra: 255,
-            consecutive: true,
-        },
-    }
-}
 
 fn push_good(random: &mut Random, list: &mut Vec<u32>, most: u32) {
     for _ in 0..random.below(most + 1) {
@@ -132,20 +14,29 @@ fn push_good(random: &mut Random, list: &mut Vec<u32>, most: u32) {
     }
 }
 
-/// Cuts the last command, or leaves a lone word.
+fn push_idle(random: &mut Random, list: &mut Vec<u32>, most: u32) {
+    for _ in 0..random.below(most + 1) {
+        idle_command(random).push(random, list);
+    }
+}
+
+/// Adds a command and cuts it: most often an even number of its words is left, as
+/// in a list of legal length.
 fn cut(random: &mut Random, list: &mut Vec<u32>) {
     let start = list.len();
-    let command = if random.chance(1, 4) {
+    let mut command = if random.chance(1, 4) {
         bad_command(random)
     } else {
         good_command(random)
     };
+    command.extra = command.extra.max(1);
     command.push(random, list);
     let words = (list.len() - start) as u32;
-    let left = match random.below(3) {
-        0 => 1,
-        1 => words - 1,
-        _ => random.between(1, words - 1),
+    let left = match random.below(8) {
+        0 => random.between(1, words - 1),
+        1 => 1,
+        2..=4 => words - 2,
+        _ => 2 * random.between(1, words / 2 - 1),
     };
     list.truncate(start + left as usize);
 }
@@ -174,18 +65,17 @@ fn long_list(random: &mut Random) -> Vec<u32> {
 
 /// Goes on with good commands up to about the largest length.
 fn fill(random: &mut Random, list: &mut Vec<u32>) {
-    while list.len() < LONGEST_LIST {
+    let about = [-4, -2, -1, 0, 0, 0, 1, 1, 2, 2, 4];
+    let words = LONGEST_LIST.saturating_add_signed(random.pick(&about));
+    while list.len() + 1 < words {
         let mut command = good_command(random);
         command.consecutive = false;
-        let room = (LONGEST_LIST - list.len()) as u32;
+        let room = (words - list.len()) as u32 & !1;
         command.extra = (room - 2).min(random.between(200, 255));
         command.push(random, list);
     }
-    for _ in 0..random.pick(&[0, 0, 1, 2, 4]) {
+    if list.len() < words {
         list.push(random.word());
-    }
-    if random.chance(1, 6) {
-        list.pop();
     }
 }
 
@@ -215,6 +105,7 @@ pub fn cut_after_fault(random: &mut Random) -> Vec<u32> {
     let most = (list.len() - start - 1) as u32;
     let least = (command.allowed_writes() + 2).min(most);
     list.truncate(start + random.between(least, most) as usize);
+    finish(random, &mut list);
     list
 }
 
@@ -240,11 +131,12 @@ pub fn port_run(random: &mut Random) -> Vec<u32> {
     };
     run.push(random, &mut list);
     push_good(random, &mut list, 1);
+    finish(random, &mut list);
     list
 }
 
 pub fn list(random: &mut Random) -> Vec<u32> {
-    if random.chance(1, 2000) {
+    if random.chance(1, 800) {
         return long_list(random);
     }
     short_list(random)
@@ -268,9 +160,11 @@ pub fn short_list(random: &mut Random) -> Vec<u32> {
             push_good(random, &mut list, 3);
             cut(random, &mut list);
         }
-        30 => list = garbage(random),
+        30 if random.chance(1, 2) => list = garbage(random),
+        30 => push_idle(random, &mut list, 4),
         _ => push_good(random, &mut list, 1),
     }
+    finish(random, &mut list);
     list
 }
 

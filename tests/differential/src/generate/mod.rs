@@ -1,7 +1,9 @@
 //! Structured cases: most are answered, the rest are refused for a chosen
 //! reason, and every choice leans on the borders of the document's rules.
 
+mod commands;
 mod cuts;
+mod filling;
 mod lists;
 pub mod pieces;
 mod places;

@@ -8,6 +8,7 @@ use crate::model::{
 use crate::random::Random;
 
 const ENTRY: u32 = 0xFF_FFFF;
+const LONGEST_LIST: usize = 65_536;
 
 /// A copy of a state, which goes on as the lists are read that are made for it.
 #[derive(Clone)]
@@ -125,7 +126,8 @@ pub fn restate_some(random: &mut Random, list: &mut [u32], state: &mut Foreseen)
         11 | 12 => Some(Which::Most),
         _ => Some(Which::Some),
     };
-    if let Some(which) = which {
+    // A list that is too long is refused, whatever its values are.
+    if let Some(which) = which.filter(|_| list.len() <= LONGEST_LIST) {
         restate(random, list, which, state.clone());
     }
     state.read(list);

@@ -23,11 +23,12 @@ pub fn id(random: &mut Random) -> u32 {
     }
 }
 
+/// Often F, and now and then 0.
 pub fn mask(random: &mut Random) -> u32 {
-    if random.chance(2, 5) {
-        0xF
-    } else {
-        random.below(16)
+    match random.below(10) {
+        0..=3 => 0xF,
+        4 => 0,
+        _ => random.below(16),
     }
 }
 

@@ -21,6 +21,12 @@ impl Writes {
         self.values.push(value);
     }
 
+    fn insert(&mut self, index: usize, id: u32, mask: u32, value: u32) {
+        self.ids.insert(index, id);
+        self.masks.insert(index, mask);
+        self.values.insert(index, value);
+    }
+
     fn truncate(&mut self, count: usize) {
         self.ids.truncate(count);
         self.masks.truncate(count);
@@ -72,13 +78,82 @@ fn push_run(random: &mut Random, writes: &mut Writes) {
     }
 }
 
+/// An id for a write with mask 0, most often that of a write beside it or one
+/// that would go on with it.
+fn idle_id(random: &mut Random, writes: &Writes, index: usize) -> u32 {
+    let beside = [index.checked_sub(1), Some(index)];
+    let beside = beside.into_iter().flatten();
+    let beside: Vec<u32> = beside
+        .filter_map(|index| writes.ids.get(index))
+        .copied()
+        .collect();
+    loop {
+        let id = match random.below(4) {
+            0 | 1 if !beside.is_empty() => random.pick(&beside),
+            2 if !beside.is_empty() => random.pick(&beside) + 1,
+            _ => words::id(random),
+        };
+        if allowed::<NONE>(id, 0).is_ok() {
+            return id;
+        }
+    }
+}
+
+/// Puts writes with mask 0 in a row, before the one at an index.
+fn insert_idle(random: &mut Random, writes: &mut Writes, index: usize, count: u32) {
+    for _ in 0..count {
+        let id = idle_id(random, writes, index);
+        writes.insert(index, id, 0, words::value(random));
+    }
+}
+
+/// Gives some writes mask 0, as far as that is allowed.
+fn make_idle(random: &mut Random, writes: &mut Writes, part: u32, whole: u32) {
+    for (&id, mask) in writes.ids.iter().zip(&mut writes.masks) {
+        if allowed::<NONE>(id, 0).is_ok() && random.chance(part, whole) {
+            *mask = 0;
+        }
+    }
+}
+
+/// Writes with mask 0 at any place of a run: first, last, between, many, all.
+fn add_idle(random: &mut Random, writes: &mut Writes) {
+    let end = writes.ids.len();
+    match random.below(10) {
+        0 => make_idle(random, writes, 1, 1),
+        1 => make_idle(random, writes, 1, 8),
+        2 => make_idle(random, writes, 1, 2),
+        3 => {
+            let count = random.between(1, 3);
+            insert_idle(random, writes, 0, count);
+        }
+        4 => {
+            let count = random.between(1, 3);
+            insert_idle(random, writes, end, count);
+        }
+        5 if end < 100 => {
+            for index in (0..=end).rev() {
+                let count = random.below(3);
+                insert_idle(random, writes, index, count);
+            }
+        }
+        _ => {
+            for _ in 0..random.between(1, 3) {
+                let index = random.below(writes.ids.len() as u32 + 1) as usize;
+                let count = random.pick(&[1, 1, 1, 2, 30]);
+                insert_idle(random, writes, index, count);
+            }
+        }
+    }
+}
+
 /// Makes the write at an index one that isn't allowed.
 fn spoil(random: &mut Random, writes: &mut Writes) {
     if writes.ids.is_empty() {
         return;
     }
     let index = random.below(writes.ids.len() as u32) as usize;
-    match random.below(6) {
+    match random.below(7) {
         0 => writes.masks[index] = words::large_mask(random),
         1 => writes.ids[index] = random.pick(&[0x300, 0x301, 0xFFFF, 0x1_0041, 0xFFFF_FFFF]),
         2 => writes.ids[index] = random.pick(&words::JUMPS),
@@ -89,6 +164,11 @@ fn spoil(random: &mut Random, writes: &mut Writes) {
         4 => {
             writes.ids[index] = random.word();
             writes.masks[index] = words::large_mask(random);
+        }
+        5 => {
+            let data = words::port_data(random);
+            writes.ids[index] = random.pick(&[0x300, 0xFFFF_FFFF, 0x23C, 0x23D, data]);
+            writes.masks[index] = 0;
         }
         _ => {
             writes.ids[index] = words::id(random);
@@ -104,10 +184,16 @@ fn writes(random: &mut Random) -> Writes {
         while writes.ids.len() < count {
             push_run(random, &mut writes);
         }
+        if random.chance(1, 2) {
+            add_idle(random, &mut writes);
+        }
         writes.truncate(count);
     } else {
         for _ in 0..random.below(8) {
             push_run(random, &mut writes);
+        }
+        if random.chance(1, 2) {
+            add_idle(random, &mut writes);
         }
     }
     if random.chance(1, 5) {
@@ -143,7 +229,7 @@ fn space_length(random: &mut Random, writes: &Writes) -> usize {
     let Writes { ids, masks, values } = writes;
     let alike = ids.len() == masks.len() && ids.len() == values.len();
     let good = |(&id, &mask): (&u32, &u32)| mask <= 15 && allowed::<NONE>(id, mask).is_ok();
-    let most = 2 * ids.len();
+    let most = 2 * ids.len() + 2;
     if !alike || ids.len() > MOST_WRITES || !ids.iter().zip(masks).all(good) {
         return random.pick(&[0, most, most / 2]);
     }
@@ -152,10 +238,10 @@ fn space_length(random: &mut Random, writes: &Writes) -> usize {
         0..=4 => needed,
         5 | 6 => needed + 1,
         7 | 8 => needed.saturating_sub(1),
-        9 => needed.saturating_sub(2),
-        10 => random.below(needed as u32 + 1) as usize,
-        11 => random.pick(&[0, 1, ids.len()]),
-        12 => needed + random.below(64) as usize,
+        9 | 10 => needed.saturating_sub(2),
+        11 => random.below(needed as u32 + 1) as usize,
+        12 => random.pick(&[0, 1, ids.len()]),
+        13 => needed + random.below(64) as usize,
         _ => most,
     }
 }

@@ -12,7 +12,7 @@ pub struct Header {
     pub consecutive: bool,
 }
 
-#[derive(Clone, Copy, Debug, PartialEq, Eq)]
+#[derive(Clone, Copy, Debug, PartialEq, Eq, Hash)]
 pub struct Write {
     pub id: u32,
     pub mask: u32,
@@ -66,7 +66,17 @@ pub fn firsts(list: &[u32]) -> Vec<usize> {
     firsts
 }
 
-/// Pushes the writes of the list's commands, up to the first fault.
+/// The commands whose writes belong to the list's expansion, each by its first
+/// word and its header, as far as their headers are there: a command with mask 0
+/// has none.
+pub fn carrying(list: &[u32]) -> Vec<(usize, Header)> {
+    let commands = firsts(list).into_iter();
+    let headers = commands.map(|first| (first, header::<NONE>(list[first + 1])));
+    headers.filter(|(_, header)| header.mask != 0).collect()
+}
+
+/// Pushes the expansion of the list: the writes of its commands, up to the first
+/// fault.
 pub fn expand<const F: u32>(list: &[u32], writes: &mut Vec<Write>) -> Result<u32, Refusal> {
     let mut first = 0;
     let mut commands = 0;
@@ -80,13 +90,19 @@ pub fn expand<const F: u32>(list: &[u32], writes: &mut Vec<Write>) -> Result<u32
         if left.len() < 2 {
             return refuse(2, place);
         }
+        if F == PAIR_ENDS && left[..2] == [0, 0] {
+            break;
+        }
         let header = header::<F>(left[1]);
         let needed = words_needed::<F>(header.extra);
-        let missing = missing_words::<F>(needed, &header, left.len());
+        let missing = needed > left.len();
         if missing && F != ORDER_2_LAST {
             return refuse(2, place);
         }
         if F == UNUSED_BITS_REFUSED && bits(left[1], 28, 30) == 7 {
+            return refuse(2, place);
+        }
+        if F == PADDING_REFUSED && header.extra % 2 == 1 && left[needed - 1] != 0 {
             return refuse(2, place);
         }
         expand_command::<F>(left, &header, place, writes)?;
@@ -99,14 +115,16 @@ pub fn expand<const F: u32>(list: &[u32], writes: &mut Vec<Write>) -> Result<u32
     Ok(commands)
 }
 
-fn missing_words<const F: u32>(needed: usize, header: &Header, left: usize) -> bool {
-    if F == PADDING_NOT_NEEDED {
-        2 + header.extra as usize > left
-    } else {
-        needed > left
+/// Whether a write of a command is left unchecked: a fault.
+fn unchecked<const F: u32>(header: &Header, parameter: u32) -> bool {
+    match F {
+        MASK_0_UNCHECKED => header.mask == 0,
+        MASK_0_FIRST_CHECKED => header.mask == 0 && parameter > 0,
+        _ => false,
     }
 }
 
+/// Every write is checked; one with mask 0 belongs to no expansion.
 fn expand_command<const F: u32>(
     words: &[u32],
     header: &Header,
@@ -126,15 +144,21 @@ fn expand_command<const F: u32>(
         if F == ID_WRAPS && header.id <= LAST_ID {
             id %= LAST_ID + 1;
         }
-        if let Err(number) = allowed::<F>(id, header.mask) {
-            let within = if F == PLACE_IS_WRITE { word } else { 0 };
-            return refuse(number, place + within);
+        let mask = header.mask;
+        match allowed::<F>(id, mask) {
+            Err(number) if !unchecked::<F>(header, parameter) => {
+                let within = if F == PLACE_IS_WRITE { word } else { 0 };
+                return refuse(number, place + within);
+            }
+            _ => {}
         }
-        writes.push(Write {
-            id,
-            mask: header.mask,
-            value,
-        });
+        let mask = match mask {
+            0 if F == MASK_0_AS_F => 0xF,
+            _ => mask,
+        };
+        if mask != 0 || F == MASK_0_COUNTED {
+            writes.push(Write { id, mask, value });
+        }
     }
     Ok(())
 }

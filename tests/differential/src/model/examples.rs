@@ -3,14 +3,14 @@
 use super::faults::NONE;
 use super::*;
 
-struct State {
-    cells: Vec<u32>,
-    fog: Vec<u32>,
-    light: Vec<u32>,
+pub struct State {
+    pub cells: Vec<u32>,
+    pub fog: Vec<u32>,
+    pub light: Vec<u32>,
 }
 
 impl State {
-    fn zero() -> State {
+    pub fn zero() -> State {
         State {
             cells: vec![0; CELLS],
             fog: vec![0; FOG_ENTRIES],
@@ -20,14 +20,14 @@ impl State {
 
     /// What is answered, and what then stands where the differences go, where 9
     /// stood before.
-    fn read(&mut self, list: &[u32]) -> (u64, u32) {
+    pub fn read(&mut self, list: &[u32]) -> (u64, u32) {
         let (cells, fog, light) = (&mut self.cells, &mut self.fog, &mut self.light);
         let mut differences = [9];
         let answer = read::<NONE>(cells, fog, light, list, &mut differences);
         (answer, differences[0])
     }
 
-    fn write(&mut self, id: u32, mask: u32, value: u32) -> u64 {
+    pub fn write(&mut self, id: u32, mask: u32, value: u32) -> u64 {
         let (cells, fog, light) = (&mut self.cells, &mut self.fog, &mut self.light);
         write::<NONE>(cells, fog, light, id, mask, value)
     }
@@ -54,17 +54,8 @@ impl State {
     }
 }
 
-fn refusal(number: u64, place: u64) -> u64 {
+pub fn refusal(number: u64, place: u64) -> u64 {
     number << 32 | place
-}
-
-fn packed(ids: &[u32]) -> Vec<u32> {
-    let masks = vec![0xF; ids.len()];
-    let values: Vec<u32> = (1..=ids.len() as u32).collect();
-    let mut space = vec![0; 2 * ids.len()];
-    let words = pack::<NONE>(ids, &masks, &values, &mut space);
-    space.truncate(words as usize);
-    space
 }
 
 #[test]
@@ -146,18 +137,18 @@ fn a_write_that_makes_a_difference() {
 fn differences_of_a_list() {
     let mut state = State::zero();
     // Each write is judged on what those before it left: 1, 1, 2, 1, 1.
-    let list = [1, 0x004F_0041, 1, 2, 1, 1];
+    let list = [1, 0x004F_0041, 1, 2, 1, 1, 0, 0];
     assert_eq!(state.read(&list), (5, 3));
     assert_eq!(state.read(&list), (5, 2));
     // Rising ids: 41 holds 1, and 43 no bit of its value.
-    let list = [1, 0x803F_0041, 3, 0xFF00_0000, 4, 0];
+    let list = [1, 0x803F_0041, 3, 0xFF00_0000, 4, 0, 0, 0];
     assert_eq!(state.read(&list), (4, 2));
     assert_eq!(state.read(&list), (4, 0));
     // Port data counts each time, and a refused list gives nothing.
-    let list = [0, 0x001F_01C8, 0, 0, 1, 0x000F_023C];
+    let list = [0, 0x001F_01C8, 0, 0, 1, 0x000F_023C, 0, 0];
     assert_eq!(state.read(&list[..4]), (2, 2));
     assert_eq!(state.read(&list), (refusal(4, 4), 9));
-    assert_eq!(state.read(&list[..3]), (refusal(2, 0), 9));
+    assert_eq!(state.read(&[0, 0x003F_01C8, 0, 0]), (refusal(2, 0), 9));
     state.fog.pop();
     assert_eq!(state.read(&[]), (refusal(6, 0), 9));
 }
@@ -208,23 +199,8 @@ fn combiner() {
     assert_eq!(state.fragment(&given).1[0], 0x0303_0303);
 }
 
-#[test]
-fn packing() {
-    assert_eq!(
-        packed(&[0x41, 0x41, 0x42, 0x43]),
-        [1, 0x000F_0041, 2, 0x802F_0041, 3, 4]
-    );
-    assert_eq!(
-        packed(&[0x41, 0x41, 0x42]),
-        [1, 0x001F_0041, 2, 0, 3, 0x000F_0042]
-    );
-    assert_eq!(packed(&[0x41; 256]).len(), 258);
-    assert_eq!(packed(&[0x41; 257]).len(), 260);
-    assert!(packed(&[]).is_empty());
-}
-
 /// What a call leaves of three buffers of these lengths, filled with 9.
-fn listed(list: &[u32], lengths: [usize; 3]) -> (u64, [Vec<u32>; 3]) {
+pub fn listed(list: &[u32], lengths: [usize; 3]) -> (u64, [Vec<u32>; 3]) {
     let [mut ids, mut masks, mut values] = lengths.map(|length| vec![9; length]);
     let answer = writes::<NONE>(list, &mut ids, &mut masks, &mut values);
     (answer, [ids, masks, values])
@@ -237,8 +213,8 @@ fn the_writes_of_a_list() {
     let masks = vec![15, 15, 15, 9];
     let values = vec![0xAAAA_AAAA, 0xBBBB_BBBB, 0xCCCC_CCCC, 9];
     assert_eq!(listed(&list, [4; 3]), (3, [ids, masks, values]));
-    // equal ids, a padding word, and another command with a mask of its own
-    let list = [1, 0x001F_0041, 2, 0xFFFF_FFFF, 3, 0x0003_0042];
+    // equal ids, a padding word, another command with a mask of its own, a filling
+    let list = [1, 0x001F_0041, 2, 0xFFFF_FFFF, 3, 0x0003_0042, 9, 0x40];
     let (ids, masks) = (vec![0x41, 0x41, 0x42], vec![15, 15, 3]);
     assert_eq!(listed(&list, [3; 3]), (3, [ids, masks, vec![1, 2, 3]]));
     assert_eq!(listed(&[], [0; 3]).0, 0);
@@ -246,14 +222,16 @@ fn the_writes_of_a_list() {
 
 #[test]
 fn the_writes_of_a_list_refused() {
-    let list = [1, 0x000F_0041, 2, 0x000F_023C];
+    let list = [1, 0x000F_0041, 0, 0, 2, 0x000F_023C, 0, 0];
     let long = vec![0; 65_537];
     for (list, lengths, answer) in [
-        (&list[..2], [0; 3], refusal(22, 1)),
-        (&list[..2], [1, 1, 0], refusal(7, 0)),
-        (&list, [0; 3], refusal(4, 2)),
-        (&list, [2; 3], refusal(4, 2)),
-        (&list[..3], [0; 3], refusal(2, 2)),
+        (&list[..4], [0; 3], refusal(22, 1)),
+        (&list[..4], [1, 1, 0], refusal(7, 0)),
+        (&list, [0; 3], refusal(4, 4)),
+        (&list, [2; 3], refusal(4, 4)),
+        (&[1, 0x003F_0041, 2, 3], [0; 3], refusal(2, 0)),
+        (&list[..6], [0; 3], refusal(15, 0)),
+        (&list[..6], [0, 1, 0], refusal(7, 0)),
         (&long, [0; 3], refusal(1, 0)),
         (&long, [0, 0, 1], refusal(7, 0)),
     ] {

@@ -1,8 +1,9 @@
 //! The writes of a list, put into three buffers.
 
-use super::commands::{expand, header, words_needed, Header, Write};
+use super::commands::{carrying, expand, firsts, header, words_needed, Header, Write};
 use super::faults::*;
-use super::reading::list_length;
+use super::lengths::{by_sixteen_bytes, list_length, not_too_long};
+use super::misjudged::of_mask_0;
 use super::{given_back, refuse, Refusal};
 
 /// Where the writes go.
@@ -68,7 +69,7 @@ fn write_of<const F: u32>(words: &[u32], header: &Header, parameter: u32) -> Wri
 }
 
 /// The expansion of a list that isn't refused: one write for each parameter of
-/// each command.
+/// each command, but for those with mask 0.
 fn expansion<const F: u32>(list: &[u32]) -> Vec<Write> {
     let mut writes = Vec::new();
     let mut first = 0;
@@ -88,13 +89,11 @@ fn expansion<const F: u32>(list: &[u32]) -> Vec<Write> {
         }
         first += needed;
     }
-    if F == WRITES_MASK_0_LEFT_OUT {
-        writes.retain(|write| write.mask != 0);
-    }
+    writes.retain(|write| write.mask != 0 || F == WRITES_MASK_0_LISTED);
     writes
 }
 
-/// How many writes a list has, if it isn't refused.
+/// How many writes the expansion of a list has, if it isn't refused.
 pub fn count_writes(list: &[u32]) -> Option<usize> {
     let mut judged = Vec::new();
     list_length::<NONE>(list).ok()?;
@@ -102,11 +101,39 @@ pub fn count_writes(list: &[u32]) -> Option<usize> {
     Some(judged.len())
 }
 
+/// How many commands of a list have mask 0, and how many there are.
+pub fn mask_0_commands(list: &[u32]) -> (usize, usize) {
+    let commands = firsts(list).len();
+    (commands - carrying(list).len(), commands)
+}
+
+/// Whether a list would be refused by its commands, whatever its length is.
+pub fn commands_refused(list: &[u32]) -> bool {
+    expand::<NONE>(list, &mut Vec::new()).is_err()
+}
+
+/// The reader's test of the length; a fault in it is planted in the writes alone.
+fn test_length<const F: u32>(list: &[u32]) -> Result<(), Refusal> {
+    match F {
+        WRITES_ORDER_15_1 => list_length::<ORDER_15_1>(list),
+        WRITES_EVEN_LENGTHS => list_length::<EVEN_LENGTHS>(list),
+        WRITES_ORDER_15_LAST | WRITES_ORDER_22_15 => not_too_long::<F>(list),
+        WRITES_PLACE_15 => list_length::<PLACE_15>(list),
+        _ => list_length::<F>(list),
+    }
+}
+
 /// The refusals of the list, in the reader's order.
 fn judge<const F: u32>(list: &[u32], places: &mut Places) -> Result<u32, Refusal> {
-    list_length::<F>(list)?;
+    test_length::<F>(list)?;
     let mut judged = Vec::new();
-    let result = expand::<F>(list, &mut judged);
+    let result = match F {
+        WRITES_MASK_0_UNCHECKED => expand::<MASK_0_UNCHECKED>(list, &mut judged),
+        _ => expand::<F>(list, &mut judged),
+    };
+    if F == WRITES_ORDER_15_LAST && result.is_ok() {
+        by_sixteen_bytes::<F>(list)?;
+    }
     if F == WRITES_ORDER_22_LIST && judged.len() > places.room() {
         return refuse(22, judged.len() as u32);
     }
@@ -117,8 +144,10 @@ fn judge<const F: u32>(list: &[u32], places: &mut Places) -> Result<u32, Refusal
 }
 
 fn put_writes<const F: u32>(list: &[u32], places: &mut Places) -> Result<u32, Refusal> {
-    if F == WRITES_ORDER_1_7 {
-        list_length::<F>(list)?;
+    match F {
+        WRITES_ORDER_1_7 => not_too_long::<F>(list)?,
+        WRITES_ORDER_15_7 => by_sixteen_bytes::<F>(list)?,
+        _ => {}
     }
     places.test_lengths::<F>()?;
     let commands = judge::<F>(list, places)?;
@@ -126,12 +155,19 @@ fn put_writes<const F: u32>(list: &[u32], places: &mut Places) -> Result<u32, Re
     if F == WRITES_AT_MOST_4096 && writes.len() > 4096 {
         return refuse(8, 0);
     }
-    let exact_refused = F == WRITES_ROOM_ONE_OFF && writes.len() == places.room();
-    if writes.len() > places.room() || exact_refused {
+    let mut needed = writes.len();
+    if F == WRITES_MASK_0_ROOM {
+        needed += of_mask_0(list) as usize;
+    }
+    let exact_refused = F == WRITES_ROOM_ONE_OFF && needed == places.room();
+    if needed > places.room() || exact_refused {
         if F == WRITES_PARTIAL {
             places.put(&writes);
         }
-        return refuse(22, place_of::<F>(places.room(), writes.len()));
+        return refuse(22, place_of::<F>(places.room(), needed));
+    }
+    if F == WRITES_ORDER_22_15 {
+        by_sixteen_bytes::<F>(list)?;
     }
     places.put(&writes);
     match F {
@@ -141,6 +177,7 @@ fn put_writes<const F: u32>(list: &[u32], places: &mut Places) -> Result<u32, Re
     }
     Ok(match F {
         WRITES_ANSWER_COMMANDS => commands,
+        WRITES_MASK_0_ANSWERED => writes.len() as u32 + of_mask_0(list),
         _ => writes.len() as u32,
     })
 }

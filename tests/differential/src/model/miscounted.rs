@@ -1,24 +1,19 @@
 //! Planted faults of lists that arrive in pieces: differences counted wrongly.
 //! Without a fault they are counted as the joined list is read.
 
-use super::commands::{expand, firsts, header, Write};
+use super::commands::{carrying, expand, Write};
 use super::faults::*;
 use super::misjoined::since_cut;
-use super::misjudged::{count, made, on_the_state_before};
+use super::misjudged::{count, made, of_mask_0, on_the_state_before};
 use super::pieces::{take, Fed, State};
 use super::reading::apply_all;
 
-/// The words with which the writes come, in order: a command's first parameter
-/// comes with its header.
+/// The words with which the expansion's writes come, in order: a command's first
+/// parameter comes with its header.
 fn words_of_writes(fed: &Fed) -> Vec<usize> {
-    let writes_of = |first: usize| {
-        let extra = header::<NONE>(fed.joined[first + 1]).extra as usize;
-        first + 1..=first + 1 + extra
-    };
-    firsts(&fed.joined)
-        .into_iter()
-        .flat_map(writes_of)
-        .collect()
+    let commands = carrying(&fed.joined).into_iter();
+    let words = commands.map(|(first, header)| first + 1..=first + 1 + header.extra as usize);
+    words.flatten().collect()
 }
 
 /// The differences among the writes that came with some words.
@@ -113,6 +108,7 @@ pub fn count_wrongly(
         PIECES_DIFFERENCES_TAKEN => Some(words_taken(before, writes)),
         PIECES_DIFFERENCES_ARE_WRITES => Some(writes.len() as u32),
         PIECES_DIFFERENCES_REFUSED => Some(count(&right())),
+        PIECES_DIFFERENCES_MASK_0 => Some(count(&right()) + of_mask_0(&fed.joined)),
         _ => None,
     }
 }

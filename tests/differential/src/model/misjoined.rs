@@ -3,10 +3,10 @@
 
 use std::borrow::Cow;
 
-use super::commands::{expand, firsts, header, words_needed, Write};
+use super::commands::{carrying, expand, firsts, header, words_needed, Write};
 use super::faults::*;
+use super::lengths::{by_sixteen_bytes, list_length, not_too_long};
 use super::pieces::Fed;
-use super::reading::list_length;
 use super::{ports, Refusal};
 
 impl Fed {
@@ -26,6 +26,7 @@ pub fn list(fault: u32, fed: &Fed) -> Cow<'_, [u32]> {
     match fault {
         PIECES_FIRST_LOST => Cow::Owned(first_lost(fed)),
         PIECES_PADDING_LOST => Cow::Owned(padding_lost(fed)),
+        PIECES_MASK_0_CUT_UNCHECKED => Cow::Owned(mask_0_not_rising(fed)),
         _ => Cow::Borrowed(&fed.joined),
     }
 }
@@ -55,21 +56,65 @@ fn padding_lost(fed: &Fed) -> Vec<u32> {
     list
 }
 
-/// Refuses a list that is too long; some faults look at its parts or its writes.
-pub fn limit(fault: u32, fed: &Fed, list: &[u32]) -> Result<(), Refusal> {
+/// Of a command with mask 0 that was cut, only the first id is looked at.
+fn mask_0_not_rising(fed: &Fed) -> Vec<u32> {
+    let mut list = fed.joined.clone();
+    for (first, words) in mask_0_commands(fed) {
+        if (first + 2..first + words).any(|word| fed.cut_at(word)) {
+            list[first + 1] &= !(1 << 31);
+        }
+    }
+    list
+}
+
+/// The commands with mask 0: their first words, and their words without padding.
+fn mask_0_commands(fed: &Fed) -> Vec<(usize, usize)> {
+    let commands = firsts(&fed.joined).into_iter();
+    let headers = commands.map(|first| (first, header::<NONE>(fed.joined[first + 1])));
+    let with_mask_0 = headers.filter(|(_, header)| header.mask == 0);
+    with_mask_0
+        .map(|(first, header)| (first, 2 + header.extra as usize))
+        .collect()
+}
+
+/// The writes with mask 0 that come after a cut in their command.
+pub fn mask_0_after_cut(fed: &Fed) -> u32 {
+    let after = |(first, words): (usize, usize)| {
+        let cut = (first + 2..first + words).find(|&word| fed.cut_at(word));
+        cut.map_or(0, |cut| (first + words - cut) as u32)
+    };
+    mask_0_commands(fed).into_iter().map(after).sum()
+}
+
+/// Refuses a list by its length; some faults look at its parts or its writes.
+pub fn limit(fault: u32, fed: &Fed) -> Result<(), Refusal> {
+    let list = &fed.joined;
+    let mut parts = (0..fed.parts.len()).map(|part| fed.part(part));
     match fault {
         PIECES_LIMIT_ON_PART => {
-            (0..fed.parts.len()).try_for_each(|part| list_length::<NONE>(fed.part(part)))
+            parts.try_for_each(not_too_long::<NONE>)?;
+            by_sixteen_bytes::<NONE>(list)
         }
         PIECES_LIMIT_UP_TO_FAULT => test_writes(list).and_then(|()| list_length::<NONE>(list)),
         PIECES_PARTS_ALONE => {
             list_length::<NONE>(list)?;
             test_parts(fed)
         }
-        PIECES_LIMIT_PLACE => list_length::<NONE>(list).map_err(|refusal| Refusal {
-            place: 65_536,
-            ..refusal
-        }),
+        PIECES_LIMIT_PLACE => {
+            let placed = |refusal| Refusal {
+                place: 65_536,
+                ..refusal
+            };
+            not_too_long::<NONE>(list).map_err(placed)?;
+            by_sixteen_bytes::<NONE>(list)
+        }
+        PIECES_ORDER_15_1 => list_length::<ORDER_15_1>(list),
+        PIECES_EVEN_LENGTHS | PIECES_ORDER_15_LAST => list_length::<EVEN_LENGTHS>(list),
+        PIECES_PLACE_15 => list_length::<PLACE_15>(list),
+        PIECES_15_OF_PARTS => {
+            list_length::<NONE>(list)?;
+            parts.try_for_each(by_sixteen_bytes::<NONE>)
+        }
         _ => list_length::<NONE>(list),
     }
 }
@@ -119,9 +164,9 @@ pub fn left_out(fault: u32, fed: &Fed) -> bool {
 /// they came with its part, and whether some came with an earlier one.
 pub fn since_cut(fed: &Fed) -> Vec<(u32, bool)> {
     let mut since = Vec::new();
-    for first in firsts(&fed.joined) {
+    for (first, header) in carrying(&fed.joined) {
         let mut before = (0, false);
-        for parameter in 0..=header::<NONE>(fed.joined[first + 1]).extra {
+        for parameter in 0..=header.extra {
             let word = first + (parameter + 1) as usize;
             if parameter > 0 && fed.cut_at(word) {
                 before = (0, true);
@@ -157,8 +202,8 @@ pub fn port_run_ends(fed: &Fed, writes: &mut Vec<Write>) {
 /// The writes of the commands that end in the last part.
 pub fn writes_of_last_part(fed: &Fed) -> u32 {
     let last = fed.parts.last().copied().unwrap_or(0);
+    let commands = carrying(&fed.joined).into_iter();
+    let extras = commands.map(|(first, header)| (first, header.extra));
     let ends_there = |(first, extra): &(usize, u32)| first + words_needed::<NONE>(*extra) > last;
-    let commands = firsts(&fed.joined).into_iter();
-    let extras = commands.map(|first| (first, header::<NONE>(fed.joined[first + 1]).extra));
     extras.filter(ends_there).map(|(_, extra)| extra + 1).sum()
 }

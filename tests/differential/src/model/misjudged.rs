@@ -2,7 +2,7 @@
 //! a cell is compared with what it was, and a list's writes are counted as they
 //! are applied.
 
-use super::commands::{firsts, header, Write};
+use super::commands::{carrying, expand, Write};
 use super::faults::*;
 use super::ports::is_data;
 use super::reading::{apply, apply_all};
@@ -87,6 +87,7 @@ pub fn count_wrongly<const F: u32>(
         DIFFERENCES_DATA_TWICE => Some(with_data_twice(before, writes)),
         DIFFERENCES_DATA_RUN => Some(with_runs_once(before, writes)),
         DIFFERENCES_REFUSED => Some(count(&made::<NONE>(before, writes))),
+        DIFFERENCES_MASK_0 => Some(count(&made::<NONE>(before, writes)) + of_mask_0(list)),
         _ => None,
     }
 }
@@ -110,11 +111,21 @@ fn by_the_state_after(before: [&[u32]; 3], writes: &[Write]) -> u32 {
     count(&writes.iter().map(differs).collect::<Vec<_>>())
 }
 
-/// The writes of each command, as far as there are writes.
+/// The writes with mask 0, which belong to no expansion.
+pub fn of_mask_0(list: &[u32]) -> u32 {
+    let mut writes = Vec::new();
+    // Of a list that is refused, those before its first fault.
+    expand::<MASK_0_COUNTED>(list, &mut writes).ok();
+    writes.retain(|write| write.mask == 0);
+    writes.len() as u32
+}
+
+/// The writes of each command that has any in the expansion, as far as there are
+/// writes.
 fn by_commands<'a>(list: &[u32], writes: &'a [Write]) -> Vec<&'a [Write]> {
     let mut rest = writes;
-    let commands = firsts(list).into_iter().map(|first| {
-        let size = header::<NONE>(list[first + 1]).extra as usize + 1;
+    let commands = carrying(list).into_iter().map(|(_, header)| {
+        let size = header.extra as usize + 1;
         let (command, after) = rest.split_at(size.min(rest.len()));
         rest = after;
         command

@@ -9,11 +9,15 @@ mod decoded;
 mod examples;
 mod expansion;
 pub mod faults;
+#[cfg(test)]
+mod filled_examples;
 mod fragment;
 mod held;
+mod lengths;
 mod miscounted;
 mod misjoined;
 mod misjudged;
+mod mispacked;
 mod names;
 mod packing;
 mod pieces;
@@ -21,10 +25,12 @@ mod pieces;
 mod pieces_examples;
 mod ports;
 mod reading;
+#[cfg(test)]
+mod search;
 
 pub use commands::{allowed, firsts, header, Write};
 pub use decoded::{decode, FIELD_COUNT};
-pub use expansion::{count_writes, writes};
+pub use expansion::{commands_refused, count_writes, mask_0_commands, writes};
 pub use fragment::fragment;
 pub use held::{held_bits, mask_bits, HELD};
 pub use packing::{pack, shortest_list};

@@ -1,18 +1,46 @@
-//! Packing writes into a shortest list.
+//! Packing writes into a shortest list of legal length.
 
-use super::commands::allowed;
+use super::commands::{allowed, Write};
 use super::faults::*;
+use super::lengths::filled;
+use super::mispacked;
 use super::{given_back, refuse, Refusal};
 
 const MOST_WRITES: usize = 4096;
 const MOST_CARRIED: usize = 256;
 
-/// The writes, in order.
+/// What is given, as it is given.
 #[derive(Clone, Copy)]
-pub struct Writes<'a> {
-    ids: &'a [u32],
-    masks: &'a [u32],
-    values: &'a [u32],
+pub struct Given<'a> {
+    pub ids: &'a [u32],
+    pub masks: &'a [u32],
+    pub values: &'a [u32],
+}
+
+impl Given<'_> {
+    pub fn writes(&self) -> Vec<Write> {
+        let ids_and_masks = self.ids.iter().zip(self.masks);
+        let all = ids_and_masks.zip(self.values);
+        all.map(|((&id, &mask), &value)| Write { id, mask, value })
+            .collect()
+    }
+
+    /// The writes that are packed: those with mask 0 are dropped.
+    pub fn kept<const F: u32>(&self) -> Vec<Write> {
+        let mut kept = self.writes();
+        let last = kept.len().saturating_sub(1);
+        let mut index = 0..;
+        kept.retain(|write| {
+            let at_end = index.next() == Some(last);
+            let packed = match F {
+                PACK_MASK_0_PACKED => true,
+                PACK_MASK_0_LAST_PACKED => at_end,
+                _ => false,
+            };
+            write.mask != 0 || packed
+        });
+        kept
+    }
 }
 
 /// How one command carries writes that follow one another.
@@ -22,49 +50,44 @@ enum Step {
     Rising,
 }
 
-impl Writes<'_> {
-    /// Whether a command of this step may carry the write at `index` right
-    /// after the one before it.
-    fn follows<const F: u32>(&self, step: Step, index: usize) -> bool {
-        let rise = if step == Step::Rising { 1 } else { 0 };
-        let one_mask = self.masks[index] == self.masks[index - 1] || F == MASKS_MIXED;
-        one_mask && self.ids[index] == self.ids[index - 1].wrapping_add(rise)
-    }
+/// Whether a command of this step may carry a write right after another.
+fn follows<const F: u32>(step: Step, before: Write, write: Write) -> bool {
+    let rise = if step == Step::Rising { 1 } else { 0 };
+    let one_mask = write.mask == before.mask || F == MASKS_MIXED;
+    one_mask && write.id == before.id.wrapping_add(rise)
+}
 
-    /// The most writes that one command of this step can carry from `first` on.
-    fn run<const F: u32>(&self, step: Step, first: usize) -> usize {
-        let most = if F == CARRIES_255 { 255 } else { MOST_CARRIED };
-        let mut end = first + 1;
-        while end < self.ids.len() && end - first < most && self.follows::<F>(step, end) {
-            end += 1;
-        }
-        end - first
-    }
+/// The most writes that one command of this step can carry from the first on.
+fn run<const F: u32>(writes: &[Write], step: Step) -> usize {
+    let most = if F == CARRIES_255 { 255 } else { MOST_CARRIED };
+    let goes_on = |pair: &&[Write]| follows::<F>(step, pair[0], pair[1]);
+    let more = writes.windows(2).take(most - 1).take_while(goes_on);
+    1 + more.count()
+}
+
+/// The most writes that one command can carry from the first on.
+pub fn longest<const F: u32>(writes: &[Write]) -> usize {
+    let equal = run::<F>(writes, Step::Equal);
+    equal.max(run::<F>(writes, Step::Rising))
 }
 
 /// Words of a command that carries `carried` writes, its padding word among them.
-fn command_words(carried: usize) -> usize {
+pub fn command_words(carried: usize) -> usize {
     let words = 1 + carried;
     words + words % 2
 }
 
-/// How many writes each command carries: shortest in all, and among the
-/// shortest the most writes in the first command, then in the second.
-///
-/// `words[i]` is the length of the shortest list for the writes from `i` on,
-/// found from the end; every command that may stand first is tried.
-pub fn commands<const F: u32>(writes: &Writes) -> (usize, Vec<usize>) {
-    let count = writes.ids.len();
+/// For each write the length of the shortest list for the writes from it on, and
+/// how many of them the first command of such a list carries, at most.
+pub fn shortest<const F: u32>(writes: &[Write]) -> (Vec<usize>, Vec<usize>) {
+    let count = writes.len();
     let mut words = vec![0; count + 1];
     let mut carried = vec![0; count];
     for first in (0..count).rev() {
-        let equal = writes.run::<F>(Step::Equal, first);
-        let rising = writes.run::<F>(Step::Rising, first);
-        let longest = equal.max(rising);
         // Neighbours are equal or rising, never both, so a shorter command
         // carries a part of the longer run.
         words[first] = usize::MAX;
-        for tried in 1..=longest {
+        for tried in 1..=longest::<F>(&writes[first..]) {
             let needed = command_words(tried) + words[first + tried];
             let better = match F {
                 TIE_FEWEST => needed < words[first],
@@ -77,178 +100,170 @@ pub fn commands<const F: u32>(writes: &Writes) -> (usize, Vec<usize>) {
             }
         }
     }
-    (words[0], split(&carried))
+    (words, carried)
 }
 
-fn split(carried: &[usize]) -> Vec<usize> {
+/// How many writes each command carries: shortest in all, and among the
+/// shortest the most writes in the first command, then in the second. The list
+/// is not filled yet; its words come first.
+pub fn commands<const F: u32>(writes: &[Write]) -> (usize, Vec<usize>) {
+    let (words, carried) = shortest::<F>(writes);
     let mut commands = Vec::new();
     let mut first = 0;
     while first < carried.len() {
         commands.push(carried[first]);
         first += carried[first];
     }
-    commands
+    (words[0], commands)
 }
 
-fn header<const F: u32>(writes: &Writes, first: usize, carried: usize) -> u32 {
-    let rising = match carried {
-        1 => F == LONE_BIT_31,
-        _ => writes.ids[first + 1] != writes.ids[first],
+fn header<const F: u32>(writes: &[Write]) -> u32 {
+    let rising = match writes {
+        [_] => F == LONE_BIT_31,
+        _ => writes[1].id != writes[0].id,
     };
-    let extra = carried as u32 - 1;
-    writes.ids[first] | writes.masks[first] << 16 | extra << 20 | u32::from(rising) << 31
+    let extra = writes.len() as u32 - 1;
+    writes[0].id | writes[0].mask << 16 | extra << 20 | u32::from(rising) << 31
 }
 
-fn fill<const F: u32>(writes: &Writes, commands: &[usize], space: &mut [u32]) {
-    let mut first = 0;
-    let mut word = 0;
+fn lay_out<const F: u32>(mut writes: &[Write], commands: &[usize], mut space: &mut [u32]) {
     for &carried in commands {
-        let words = command_words(carried);
-        let command = &mut space[word..word + words];
-        command[0] = writes.values[first];
-        command[1] = header::<F>(writes, first, carried);
-        command[2..1 + carried].copy_from_slice(&writes.values[first + 1..first + carried]);
-        if words > 1 + carried && F != PADDING_KEPT {
+        let (command, rest) = space.split_at_mut(command_words(carried));
+        let (first, extra) = (writes[0], &writes[1..carried]);
+        if carried % 2 == 0 && F != PADDING_KEPT {
             command[1 + carried] = 0;
         }
-        first += carried;
-        word += words;
+        command[0] = first.value;
+        command[1] = header::<F>(&writes[..carried]);
+        for (word, write) in command[2..].iter_mut().zip(extra) {
+            *word = write.value;
+        }
+        writes = &writes[carried..];
+        space = rest;
     }
 }
 
-fn test_writes<const F: u32>(writes: &Writes) -> Result<(), Refusal> {
+/// The list as it is written: how long, how its writes are carried, and how long
+/// it is before it is filled.
+pub struct Plan {
+    pub commands: Vec<usize>,
+    pub before: usize,
+    pub words: usize,
+}
+
+fn plan<const F: u32>(given: &Given, kept: &[Write]) -> Plan {
+    let (before, commands) = match F {
+        PACK_MASK_0_PARTS => mispacked::parted(given),
+        PACK_TIE_FILLED => mispacked::most_among_filled(kept),
+        _ => commands::<F>(kept),
+    };
+    Plan {
+        commands,
+        before,
+        words: mispacked::words::<F>(given, before).unwrap_or(filled(before)),
+    }
+}
+
+/// Writes the list, and the pair after it.
+fn write_list<const F: u32>(kept: &[Write], plan: &Plan, space: &mut [u32]) {
+    let (list, rest) = space.split_at_mut(plan.before);
+    lay_out::<F>(kept, &plan.commands, list);
+    if F != PACK_PAIR_KEPT {
+        rest[..plan.words - plan.before].fill(0);
+    }
+    mispacked::misfill::<F>(plan, space);
+}
+
+fn test_writes<const F: u32>(given: &Given) -> Result<(), Refusal> {
     if F == MASK_9_FIRST {
-        if let Some(index) = writes.masks.iter().position(|&mask| mask > 15) {
+        if let Some(index) = given.masks.iter().position(|&mask| mask > 15) {
             return refuse(9, index as u32);
         }
     }
-    for (index, (&id, &mask)) in writes.ids.iter().zip(writes.masks).enumerate() {
-        let place = if F == PACK_PLACE { 0 } else { index as u32 };
+    for (index, (&id, &mask)) in given.ids.iter().zip(given.masks).enumerate() {
+        let place = match F {
+            PACK_PLACE => 0,
+            PACK_PLACE_OF_KEPT => mispacked::kept_before(given, index),
+            _ => index as u32,
+        };
         if mask > 15 && !(F == PACK_ORDER_3_9 && id > 0x2FF) {
             return refuse(9, place);
         }
         if let Err(number) = allowed::<F>(id, mask) {
-            return refuse(number, place);
+            if mask != 0 || F != PACK_MASK_0_UNCHECKED {
+                return refuse(number, place);
+            }
         }
     }
     Ok(())
 }
 
-fn test_lengths<const F: u32>(writes: &Writes) -> Result<(), Refusal> {
+fn test_lengths<const F: u32>(given: &Given) -> Result<(), Refusal> {
+    let Given { ids, masks, values } = *given;
     let most = if F == PACK_4095 {
         MOST_WRITES - 1
     } else {
         MOST_WRITES
     };
-    if F == ORDER_8_7 && writes.ids.len() > most {
+    let count = match F {
+        PACK_8_OF_KEPT => given.kept::<F>().len(),
+        _ => ids.len(),
+    };
+    if F == ORDER_8_7 && count > most {
         return refuse(8, 0);
     }
-    if writes.ids.len() != writes.masks.len() || writes.ids.len() != writes.values.len() {
+    if ids.len() != masks.len() || ids.len() != values.len() {
         return refuse(7, 0);
     }
-    if writes.ids.len() > most {
+    // Every write that is given counts, mask 0 too.
+    if count > most {
         return refuse(8, 0);
     }
     Ok(())
 }
 
-/// The length of the shortest list for writes that are all allowed.
+/// The length of the shortest list for writes that are all allowed, filled.
 pub fn shortest_list(ids: &[u32], masks: &[u32], values: &[u32]) -> usize {
-    let writes = Writes { ids, masks, values };
-    commands::<NONE>(&writes).0
+    let given = Given { ids, masks, values };
+    plan::<NONE>(&given, &given.kept::<NONE>()).words
 }
 
-fn pack_writes<const F: u32>(writes: &Writes, space: &mut [u32]) -> Result<u32, Refusal> {
-    test_lengths::<F>(writes)?;
+fn pack_writes<const F: u32>(given: &Given, space: &mut [u32]) -> Result<u32, Refusal> {
+    test_lengths::<F>(given)?;
+    let kept = given.kept::<F>();
     if F == ORDER_10_WRITES {
-        let (words, _) = commands::<F>(writes);
+        let words = plan::<F>(given, &kept).words;
         if space.len() < words {
             return refuse(10, words as u32);
         }
     }
-    test_writes::<F>(writes)?;
-    let (words, commands) = commands::<F>(writes);
-    let room = if F == ROOM_ONE_OFF {
-        space.len() > words
-    } else {
-        space.len() >= words
+    test_writes::<F>(given)?;
+    let mut plan = plan::<F>(given, &kept);
+    if F == PACK_ROOM_UNFILLED && (plan.before..plan.words).contains(&space.len()) {
+        plan.words = plan.before;
+    }
+    let room = match F {
+        ROOM_ONE_OFF => space.len() > plan.words,
+        _ => space.len() >= plan.words,
     };
     if !room {
         if F == PARTIAL_LIST && !space.is_empty() {
-            space[0] = writes.values[0];
+            space[0] = kept[0].value;
         }
-        let place = if F == ROOM_PLACE { space.len() } else { words };
+        let place = match F {
+            ROOM_PLACE => space.len(),
+            PACK_10_UNFILLED => plan.before,
+            _ => plan.words,
+        };
         return refuse(10, place as u32);
     }
-    fill::<F>(writes, &commands, space);
+    write_list::<F>(&kept, &plan, space);
     if F == SPACE_CLEARED {
-        space[words..].fill(0);
+        space[plan.words..].fill(0);
     }
-    Ok(words as u32)
+    Ok(plan.words as u32)
 }
 
 pub fn pack<const F: u32>(ids: &[u32], masks: &[u32], values: &[u32], space: &mut [u32]) -> u64 {
-    given_back(pack_writes::<F>(&Writes { ids, masks, values }, space))
-}
-
-#[cfg(test)]
-mod tests {
-    use super::*;
-
-    /// Every way to part `left` writes into commands.
-    fn partings(left: usize) -> Vec<Vec<usize>> {
-        if left == 0 {
-            return vec![Vec::new()];
-        }
-        let mut all = Vec::new();
-        for first in 1..=left {
-            for mut rest in partings(left - first) {
-                rest.insert(0, first);
-                all.push(rest);
-            }
-        }
-        all
-    }
-
-    fn carried_by_one(ids: &[u32]) -> bool {
-        let equal = ids.windows(2).all(|pair| pair[0] == pair[1]);
-        equal || ids.windows(2).all(|pair| pair[0] + 1 == pair[1])
-    }
-
-    fn is_list(ids: &[u32], parting: &[usize]) -> bool {
-        let mut first = 0;
-        parting.iter().all(|carried| {
-            first += carried;
-            carried_by_one(&ids[first - carried..first])
-        })
-    }
-
-    /// Against the document's words taken literally, for all short runs of
-    /// equal, rising and unrelated ids.
-    #[test]
-    fn shortest_and_greatest() {
-        for shape in 0..3_u32.pow(8) {
-            let mut ids = vec![0x40];
-            for place in 0..8 {
-                let step = [0, 1, 9][(shape / 3_u32.pow(place) % 3) as usize];
-                ids.push(ids[place as usize] + step);
-            }
-            let lists = partings(ids.len())
-                .into_iter()
-                .filter(|parting| is_list(&ids, parting));
-            let words = |parting: &Vec<usize>| -> usize {
-                parting.iter().map(|&carried| command_words(carried)).sum()
-            };
-            let best =
-                lists.max_by_key(|parting| (std::cmp::Reverse(words(parting)), parting.clone()));
-            let best = best.expect("lone writes are always a list");
-            let masks = vec![1; ids.len()];
-            let writes = Writes {
-                ids: &ids,
-                masks: &masks,
-                values: &masks,
-            };
-            assert_eq!(commands::<NONE>(&writes), (words(&best), best), "{ids:X?}");
-        }
-    }
+    given_back(pack_writes::<F>(&Given { ids, masks, values }, space))
 }

@@ -4,7 +4,8 @@
 
 use super::commands::{expand, Write};
 use super::faults::*;
-use super::reading::{apply_all, list_length};
+use super::lengths::{by_sixteen_bytes, not_too_long};
+use super::reading::apply_all;
 use super::{given_back, refuse, state_lengths, Refusal, HELD, LIGHT_ENTRIES};
 use super::{miscounted, misjoined};
 
@@ -127,8 +128,10 @@ fn try_feed(fault: u32, spare: State, reader: Reader, part: &[u32]) -> Result<u3
         fed.add(part);
     }
     tested?;
-    if fault == PIECES_TOLD_EARLY {
-        misjoined::test_writes(&fed.joined)?;
+    match fault {
+        PIECES_TOLD_EARLY => misjoined::test_writes(&fed.joined)?,
+        PIECES_15_TOLD_EARLY => by_sixteen_bytes::<NONE>(&fed.joined)?,
+        _ => {}
     }
     let come = if fed.known {
         fed.joined.len()
@@ -161,8 +164,10 @@ fn try_close(
     mut reader: Reader,
     differences: &mut [u32; 1],
 ) -> Result<u32, Refusal> {
-    if fault == PIECES_ORDER_1_6 {
-        list_length::<NONE>(&reader.fed.joined)?;
+    match fault {
+        PIECES_ORDER_1_6 => not_too_long::<NONE>(&reader.fed.joined)?,
+        PIECES_ORDER_15_6 => by_sixteen_bytes::<NONE>(&reader.fed.joined)?,
+        _ => {}
     }
     let tested = lengths(&live).and(lengths_but_light(fault == PIECES_CLOSE_SPARE_LIGHT, &spare));
     match fault {
@@ -180,7 +185,7 @@ fn try_close(
     } else {
         take_over(&mut live, &spare, reader.fed)
     };
-    leave(fault, &mut live, &mut spare, verdict.is_ok(), &writes);
+    leave(fault, &mut live, &mut spare, verdict, &writes);
     // A refused list gives neither number.
     let refused_gives = [PIECES_DIFFERENCES_REFUSED, PIECES_DIFFERENCES_REFUSED_0];
     if verdict.is_ok() || refused_gives.contains(&fault) {
@@ -193,6 +198,7 @@ fn try_close(
     match verdict {
         Ok(_) if fault == PIECES_NOT_FRESH_ACCEPTED => {}
         Err(_) if fault == PIECES_NOT_FRESH_REFUSED => {}
+        Err(refusal) if fault == PIECES_15_NOT_FRESH && refusal.number == 15 => {}
         _ => reader.freshen(),
     }
     verdict
@@ -221,15 +227,24 @@ fn put_all([cells, fog, light]: &mut State, writes: &[Write]) -> u32 {
 }
 
 fn judge(fault: u32, fed: &Fed, writes: &mut Vec<Write>) -> Result<u32, Refusal> {
+    let length = misjoined::limit(fault, fed);
+    if fault == PIECES_15_SPARE_KEPT && length == refuse(15, 0) {
+        expand::<NONE>(&fed.joined, writes).ok();
+    }
+    length?;
     let list = misjoined::list(fault, fed);
-    misjoined::limit(fault, fed, &list)?;
     let judged = match fault {
         PIECES_FAULT_BEATS_MISSING => expand::<ORDER_2_LAST>(&list, writes),
+        PIECES_MASK_0_COUNTED => expand::<MASK_0_COUNTED>(&list, writes),
+        PIECES_MASK_0_UNCHECKED => expand::<MASK_0_UNCHECKED>(&list, writes),
+        PIECES_MASK_0_AS_F => expand::<MASK_0_AS_F>(&list, writes),
         _ => expand::<NONE>(&list, writes),
     };
     judged.map_err(|refusal| misjoined::placed(fault, fed, refusal))?;
     let count = writes.len() as u32;
     match fault {
+        PIECES_ORDER_15_LAST => by_sixteen_bytes::<NONE>(&fed.joined)?,
+        PIECES_MASK_0_CUT_COUNTED => return Ok(count + misjoined::mask_0_after_cut(fed)),
         PIECES_RISE_ANEW => misjoined::rise_anew(fed, writes),
         PIECES_PORT_RUN_ENDS => misjoined::port_run_ends(fed, writes),
         PIECES_ANSWER_LAST_PART => return Ok(misjoined::writes_of_last_part(fed)),
@@ -248,19 +263,26 @@ fn take_over(live: &mut State, spare: &State, fed: &Fed) -> (Result<u32, Refusal
             Ok(low)
         }
         number @ 2..=5 => refuse(number, low),
+        15 => refuse(15, 0),
         _ => refuse(1, 0),
     };
     (verdict, fed.told_differences)
 }
 
 /// After a close both states agree in their held bits and entries.
-fn leave(fault: u32, live: &mut State, spare: &mut State, accepted: bool, writes: &[Write]) {
-    if fault != PIECES_SPARE_OLD || !accepted {
+fn leave(
+    fault: u32,
+    live: &mut State,
+    spare: &mut State,
+    verdict: Result<u32, Refusal>,
+    writes: &[Write],
+) {
+    if fault != PIECES_SPARE_OLD || verdict.is_err() {
         take(fault, spare, live);
     }
-    match (fault, accepted) {
-        (PIECES_LIVE_WHOLE, true) => take_whole(live, spare),
-        (PIECES_SPARE_KEPT, false) => {
+    match (fault, verdict) {
+        (PIECES_LIVE_WHOLE, Ok(_)) => take_whole(live, spare),
+        (PIECES_SPARE_KEPT, Err(_)) | (PIECES_15_SPARE_KEPT, Err(Refusal { number: 15, .. })) => {
             put_all(spare, writes);
         }
         _ => {}

@@ -2,9 +2,8 @@
 
 use super::commands::{allowed, expand, Write};
 use super::faults::*;
+use super::lengths::{by_sixteen_bytes, list_length, not_too_long};
 use super::{given_back, held, misjudged, ports, refuse, state_lengths, Refusal};
-
-const LONGEST_LIST: usize = 65_536;
 
 /// Applies one allowed write. Gives whether it made a difference: whether the
 /// cell, entry or index that it touches differs afterwards.
@@ -46,19 +45,8 @@ pub fn apply_all<const F: u32>(
     made
 }
 
-pub fn list_length<const F: u32>(list: &[u32]) -> Result<(), Refusal> {
-    let longest = match F {
-        LIST_65535 => LONGEST_LIST - 1,
-        LIST_65537 => LONGEST_LIST + 1,
-        _ => LONGEST_LIST,
-    };
-    if list.len() > longest {
-        return refuse(1, 0);
-    }
-    Ok(())
-}
-
-/// Answers the writes, and gives how many of them made a difference.
+/// Answers the writes of the list's expansion, and gives how many of them made a
+/// difference.
 pub fn read<const F: u32>(
     cells: &mut [u32],
     fog: &mut [u32],
@@ -103,15 +91,19 @@ fn read_writes<const F: u32>(
     list: &[u32],
     writes: &mut Vec<Write>,
 ) -> Result<u32, Refusal> {
-    if F == ORDER_1_6 {
-        list_length::<F>(list)?;
+    match F {
+        ORDER_1_6 => not_too_long::<F>(list)?,
+        ORDER_15_6 => by_sixteen_bytes::<F>(list)?,
+        _ => {}
     }
     state_lengths(cells, fog, light)?;
     list_length::<F>(list)?;
     let commands = expand::<F>(list, writes)?;
+    if F == ORDER_15_LAST {
+        by_sixteen_bytes::<F>(list)?;
+    }
     Ok(match F {
         ANSWER_COMMANDS => commands,
-        MASK_0_UNCOUNTED => writes.iter().filter(|write| write.mask != 0).count() as u32,
         _ => writes.len() as u32,
     })
 }
