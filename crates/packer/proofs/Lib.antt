@@ -1,5 +1,4 @@
 pub mod Checks
 pub mod Packs
 pub mod Once
-pub mod Filling
-pub mod Keeping
+pub mod Looking

@@ -1,20 +1,27 @@
 -- What packing answers and leaves, by the tests that code makes. Assumes nothing.
-use mathlib.Core.Path.{_≡_, refl}
+use mathlib.Core.Path.{_≡_, refl, sym, ap, _∙_}
 use mathlib.Core.List.{List}
-use Prim.Native.Nat.{ℕ}
+use Prim.Native.Nat.{ℕ, _≤_, _<_}
 use lib.ListN.{length}
 use Rattle.numbers.specs.Answer.{Answer, answered, refused}
 use Rattle.numbers.specs.Room.{ifRoom, spaceAfter}
-use Rattle.words.specs.Writes.{Write, kept}
-use Rattle.runs.specs.PackedList.{writes, packed, filled, written}
+use Rattle.numbers.proofs.Room.{room-enough, room-short}
+use Rattle.runs.specs.PackedList.{writes, written}
+use Rattle.filling.specs.Putting.{Puts}
 use Rattle.packer.specs.Checks.{checkAnswer}
 use Rattle.packer.specs.Packing.{packAnswer, packSpace}
-use Rattle.packer.specs.Keeping.{Puts}
 
--- where these are the writes that are kept, their list is the one written
-pub puts-kept : (ws ks : List Write) (a : Answer) (old new : List ℕ) → ks ≡ kept ws → Puts (filled (packed ks)) a old new
-    → Puts (written ws) a old new
-puts-kept ws ks a old new e p = rw (← e) p
+-- WHAT WAS PUT goes by the room, and so does the answer
+module _ (l old new : List ℕ) (n : ℕ) (p : Puts l n old new) where
+  by-answer : (a : Answer) → a ≡ ifRoom 10 (length l) (length old)
+      → (a ≡ ifRoom 10 (length l) (length old)) × (new ≡ spaceAfter a l old)
+  by-answer a e = (e, p .space ∙ ap (λ (x : Answer). spaceAfter x l old) (sym e))
+
+  pub put-short : length old < n → (refused 10 n ≡ ifRoom 10 (length l) (length old)) × (new ≡ spaceAfter (refused 10 n) l old)
+  put-short h = by-answer (refused 10 n) (room-short 10 (length l) (length old) n (p .words) h)
+
+  pub put-enough : n ≤ length old → (answered n ≡ ifRoom 10 (length l) (length old)) × (new ≡ spaceAfter (answered n) l old)
+  put-enough h = by-answer (answered n) (room-enough 10 (length l) (length old) n (p .words) h)
 
 -- THE WHOLE ANSWER
 module _ (is ms vs old : List ℕ) where

@@ -1,3 +1,3 @@
 pub mod Checks
 pub mod Packing
-pub mod Keeping
+pub mod Looking

@@ -9,8 +9,8 @@ use borrow.Author.Tests.{eqb-true}
 use borrow.Author.Needs.{needs}
 use Rattle.numbers.proofs.Room.{lengths-level}
 use Rattle.runs.specs.PackedList.{writes}
-use Rattle.packer.specs.Keeping.{Clear}
-use Rattle.packer.proofs.Keeping.{clear-more, clear-end}
+use Rattle.packer.specs.Looking.{Clear}
+use Rattle.packer.proofs.Looking.{clear-more, clear-end}
 use Rattle.packer.proofs.all_right.Statement.{statement}
 use Rattle.packer.proofs.all_right.Tie as tie
 

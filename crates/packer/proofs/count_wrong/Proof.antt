@@ -6,9 +6,9 @@ use native.Mathlib.Omega.{arith}
 use lib.ListN.{length, drop}
 use borrow.Author.Needs.{needs}
 use Rattle.runs.specs.PackedList.{writes}
-use Rattle.packer.specs.Keeping.{Clear}
+use Rattle.packer.specs.Looking.{Clear}
 use Rattle.numbers.proofs.Room.{lengths-level}
-use Rattle.packer.proofs.Keeping.{clear-more, clear-end}
+use Rattle.packer.proofs.Looking.{clear-more, clear-end}
 use Rattle.packer.proofs.count_wrong.Statement.{statement}
 use Rattle.packer.proofs.count_wrong.Tie as tie
 

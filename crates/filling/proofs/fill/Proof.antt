@@ -1,19 +1,17 @@
--- The plan gives the length of the list before filling; the test for room decides as `ifRoom` does, on the list with the pair; what is laid
--- out over the pair is the list filled. Assumes nothing.
+-- The plan gives the length of the list before filling; each way out puts what its tests say. Assumes nothing.
 use mathlib.Core.Path.{_≡_, refl, sym, _∙_}
 use mathlib.Core.List.{List}
 use Prim.Native.Nat.{_+_, _-_, _%_, _≤_}
 use native.Mathlib.Omega.{arith}
 use lib.ListN.{length}
 use borrow.Author.Needs.{needs}
-use Rattle.numbers.proofs.Room.{room-enough, room-short}
 use Rattle.words.specs.Writes.{Write}
-use Rattle.runs.specs.PackedList.{writes, packed, filled}
+use Rattle.runs.specs.PackedList.{writes, packed}
 use Rattle.runs.proofs.PackedList.{packed-length, packed-short}
 use Rattle.runs.proofs.Writes.{writes-length}
-use Rattle.packer.proofs.Filling.{need-length, left-empty, left-filled}
-use Rattle.packer.proofs.fill.Statement.{statement}
-use Rattle.packer.proofs.fill.Tie as tie
+use Rattle.filling.proofs.Pair.{puts-short, puts-empty, puts-filled}
+use Rattle.filling.proofs.fill.Statement.{statement}
+use Rattle.filling.proofs.fill.Tie as tie
 
 plan-run-requires : tie.Need-plan-run-requires
 plan-run-requires c κs =
@@ -49,7 +47,7 @@ same-length-2 c = search needs
 returns : tie.Need-returns
 returns c =
     let p = c .before .before .before .before .before in
-    (room-short 10 (length (filled (packed (run p)))) _ _ (need-length (run p) _ _ (planned p) refl) (c .if1 .taken), refl)
+    puts-short (run p) _ _ (planned p) refl _ (c .if1 .taken)
 
 same-length-3 : tie.Need-same-length-3
 same-length-3 c = search needs
@@ -60,10 +58,7 @@ same-length-4 c = search needs
 returns-2 : tie.Need-returns-2
 returns-2 c =
     let p = c .before .before .before .before .before .before in
-    let n = need-length (run p) _ _ (planned p) refl in (
-      room-enough 10 (length (filled (packed (run p)))) _ 0 (omega (arith, n)) (omega arith),
-      left-empty (run p) _ _ (planned p) refl (c .if2 .taken) _,
-    )
+    puts-empty (run p) _ _ (planned p) refl (c .if2 .taken) _ (c .before .if1 .left)
 
 put-pair-requires : tie.Need-put-pair-requires
 put-pair-requires c κs = search needs
@@ -94,10 +89,7 @@ returns-3 c =
     let u = c .before .before .before .before .before .before .before .before .before .if2 .left in
     let n = p .plan-run .result in
     let q = c .before .before .before .before .before .before .before .put-pair .ensures in
-    let l = c .before .before .lay-out .ensures in (
-      room-enough 10 (length (filled (packed (run p)))) _ _ (need-length (run p) _ _ (planned p) refl) h,
-      left-filled (run p) n (n + n % 4) (planned p) refl (n + n % 4 - 2) (omega (arith, u)) _ _ _ h q l,
-    )
+    puts-filled (run p) n (n + n % 4) (planned p) refl (n + n % 4 - 2) (omega (arith, u)) _ _ _ h q (c .before .before .lay-out .ensures)
 
 pub fill-spec : {M : Type 1} → statement M
 fill-spec =

@@ -2,9 +2,9 @@
 use native.Mathlib.Omega.{arith}
 use lib.ListN.{length-set}
 use borrow.Author.Needs.{needs}
-use Rattle.packer.proofs.Filling.{two-stored}
-use Rattle.packer.proofs.put_pair.Statement.{statement}
-use Rattle.packer.proofs.put_pair.Tie as tie
+use Rattle.filling.proofs.Pair.{two-stored}
+use Rattle.filling.proofs.put_pair.Statement.{statement}
+use Rattle.filling.proofs.put_pair.Tie as tie
 
 mul-space : tie.Need-mul-space
 mul-space c = search needs

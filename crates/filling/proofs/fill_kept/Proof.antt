@@ -2,8 +2,8 @@
 use native.Mathlib.Omega.{arith}
 use mathlib.Core.Path.{refl}
 use borrow.Author.Needs.{needs}
-use Rattle.packer.proofs.fill_kept.Statement.{statement}
-use Rattle.packer.proofs.fill_kept.Tie as tie
+use Rattle.filling.proofs.fill_kept.Statement.{statement}
+use Rattle.filling.proofs.fill_kept.Tie as tie
 
 slice-aggregate-fill-parts : tie.Need-slice-aggregate-fill-parts
 slice-aggregate-fill-parts c = search needs

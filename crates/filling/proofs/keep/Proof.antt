@@ -5,10 +5,10 @@ use native.Mathlib.Omega.{arith}
 use lib.ListN.{length, drop, length-set}
 use borrow.Author.Needs.{needs}
 use Rattle.runs.specs.PackedList.{writes}
-use Rattle.packer.specs.Keeping.{Keeps}
-use Rattle.packer.proofs.Keeping.{keeps-none, keeps-dropped, keeps-more}
-use Rattle.packer.proofs.keep.Statement.{statement}
-use Rattle.packer.proofs.keep.Tie as tie
+use Rattle.filling.specs.Putting.{Keeps}
+use Rattle.filling.proofs.Keeping.{keeps-none, keeps-dropped, keeps-more}
+use Rattle.filling.proofs.keep.Statement.{statement}
+use Rattle.filling.proofs.keep.Tie as tie
 
 abbrev Inv-loop : tie.InvT-loop
 Inv-loop ids masks values kept-ids₀ kept-masks₀ kept-values₀ i₀ at₀ kept-ids kept-masks kept-values i at =

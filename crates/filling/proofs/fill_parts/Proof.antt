@@ -1,11 +1,11 @@
 -- The three parts that are packed hold the writes that are kept. Assumes nothing.
 use native.Mathlib.Omega.{arith}
 use borrow.Author.Needs.{needs}
-use Rattle.packer.specs.Keeping.{Keeps}
-use Rattle.packer.proofs.Keeping.{parts-writes, parts-few, parts-given}
-use Rattle.packer.proofs.Packs.{puts-kept}
-use Rattle.packer.proofs.fill_parts.Statement.{statement}
-use Rattle.packer.proofs.fill_parts.Tie as tie
+use Rattle.filling.specs.Putting.{Keeps}
+use Rattle.filling.proofs.Keeping.{parts-writes, parts-few, parts-given}
+use Rattle.filling.proofs.Keeping.{puts-kept}
+use Rattle.filling.proofs.fill_parts.Statement.{statement}
+use Rattle.filling.proofs.fill_parts.Tie as tie
 
 keep-requires : tie.Need-keep-requires
 keep-requires c κs = search needs

@@ -1,42 +1,17 @@
--- Writes of which none is dropped, and those that are kept, from the run's end, in the room lent for them. Assumes nothing.
+-- The writes that are kept, from the run's end, in the room lent for them. Assumes nothing.
 use mathlib.Core.Path.{_≡_, refl, sym, ap, _∙_}
-use mathlib.Core.Bool.{true}
 use mathlib.Core.List.{List, _∷_}
 use Prim.Native.Nat.{ℕ, suc, _+_, _-_, _≤_, _<_}
 use native.Mathlib.Numerals.{add-one}
 use native.Mathlib.Omega.{arith}
 use lib.ListN.{length, getD, take, drop, set, length-set, length-drop, drop-of-length-le}
 use lib.Seq.{take-all, drop-at, set-split, length-take-le}
-use Rattle.numbers.specs.Room.{level}
-use Rattle.numbers.proofs.Room.{level-lengths}
 use Rattle.words.specs.Writes.{Write, writing, kept}
 use Rattle.words.proofs.Laws.{kept-none, kept-drops, kept-keeps}
-use Rattle.runs.specs.PackedList.{writes, PackableRun}
+use Rattle.runs.specs.PackedList.{writes, PackableRun, packed, filled, written}
 use Rattle.runs.proofs.Kept.{kept-is}
 use Rattle.runs.proofs.Writes.{writes-length, writes-at}
-use Rattle.packer.specs.Checks.{wrong}
-use Rattle.packer.specs.Keeping.{Clear, Keeps}
-use Rattle.packer.proofs.Checks.{wrong-none, wrong-end}
-
--- NONE REFUSED AND NONE DROPPED, write by write
-module _ (is ms vs : List ℕ) (i : ℕ) (e : level is ms vs ≡ true) where
-  pub clear-end : length is ≤ i → Clear i (drop i (writes is ms vs))
-  clear-end h =
-      let l = level-lengths is ms vs e in
-      let n = writes-length is ms vs (l .0) (l .1) in
-      record {
-        right = wrong-end is ms vs i e h;
-        live = rw (drop-of-length-le (writes is ms vs) {i = i} (omega arith)) kept-none;
-      }
-
-  pub clear-more : i < length is → (wrong (getD is i 0) (getD ms i 0) ≡ 0) × (1 ≤ getD ms i 0)
-      → Clear (i + 1) (drop (i + 1) (writes is ms vs)) → Clear i (drop i (writes is ms vs))
-  clear-more h w c =
-      let l = level-lengths is ms vs e in
-      record {
-        right = wrong-none is ms vs i e h 0 (sym (w .0)) refl ∙ c .right;
-        live = rw (writes-at is ms vs i (l .0) (l .1) h) (kept-keeps _ _ (λ z. omega (arith, w .1)) ∙ rw (c .live));
-      }
+use Rattle.filling.specs.Putting.{Keeps, Puts}
 
 -- what a store leaves from its place on
 drop-set : (l : List ℕ) (r x : ℕ) → r < length l → drop r (set l r x) ≡ x ∷ drop (r + 1) l
@@ -128,3 +103,8 @@ module _ (is ms vs ks ns us : List ℕ) (r : ℕ) (K : Keeps (writes is ms vs) r
           few = omega (arith, few, G .few);
           packable = rw (K .writes) (kept-is (writes is ms vs) .packable (G .packable));
         })
+
+-- where these are the writes that are kept, their list is the one written
+pub puts-kept : (ws ks : List Write) (n : ℕ) (old new : List ℕ) → ks ≡ kept ws → Puts (filled (packed ks)) n old new
+    → Puts (written ws) n old new
+puts-kept ws ks n old new e p = rw (← e) p
