@@ -1,4 +1,5 @@
 // Commands and their expansion: document 004, "Overview" and "Command Header", and document 01, "A command".
+use crate::four;
 use crate::show;
 
 // 004: "If consecutive writing mode is enabled in the command header, the current command index will be incremented after
@@ -6,14 +7,14 @@ use crate::show;
 fn consecutive() {
     // 004: 'the sequence "0xAAAAAAAA 0x802F011C 0xBBBBBBBB 0xCCCCCCCC" is equivalent to a call to commands 0xF011C ..,
     // 0xF011D .. and 0xF011E'
-    show::judged(
+    four::judged(
         b"consecutive",
-        &[0xAAAAAAAA, 0x802F011C, 0xBBBBBBBB, 0xCCCCCCCC],
+        [0xAAAAAAAA, 0x802F011C, 0xBBBBBBBB, 0xCCCCCCCC],
     );
     // 004: "If consecutive writing mode were disabled, the command would be equivalent to three consecutive calls to 0xF011C"
-    show::judged(
+    four::judged(
         b"not consecutive",
-        &[0xAAAAAAAA, 0x002F011C, 0xBBBBBBBB, 0xCCCCCCCC],
+        [0xAAAAAAAA, 0x002F011C, 0xBBBBBBBB, 0xCCCCCCCC],
     );
     // the same on registers that are held: five of them, one after another, and
     show::cells_after(
@@ -55,10 +56,10 @@ fn widths() {
         &[0x40, 0x102],
     );
     // 004: "a padding word to align commands to multiples of 8 bytes"; 01: "Any padding word .. accepted"
-    show::judged(b"padded", &[1, 0x001F0041, 2, 0]);
-    show::judged(b"padded with a number", &[1, 0x001F0041, 2, 0xDEADBEEF]);
+    four::judged(b"padded", [1, 0x001F0041, 2, 0]);
+    four::judged(b"padded with a number", [1, 0x001F0041, 2, 0xDEADBEEF]);
     // 01: "a command needs more words than are left": six, with three extra parameters
-    show::judged(b"words left out", &[1, 0x003F0041, 2, 3]);
+    four::judged(b"words left out", [1, 0x003F0041, 2, 3]);
     // 01: "Commands stand one after another": the next begins after the padding
     show::cells_after(
         b"after the padding",
@@ -70,7 +71,7 @@ fn widths() {
 // 004, "Command Header".
 fn headers() {
     // "28-30 Unused"; 01: "any unused bits are accepted"
-    show::cells_after(b"unused bits", &[2, 0x700F0040, 0, 0x70000000], &[0x40]);
+    four::cell_after(b"unused bits", [2, 0x700F0040, 0, 0x70000000], 0x40);
     // "20-27 Number of extra parameters (may be zero)": at most 255, which with the padding word makes 258 words, and with the
     // pair 260 (02: "258 becomes 260")
     let mut list = [0u32; 260];

@@ -3,6 +3,7 @@
 mod commands;
 mod cuttings;
 mod differences;
+mod four;
 mod masks;
 mod packing;
 mod ports;

@@ -91,8 +91,32 @@ fn pack_shown(label: &[u8], ids: &[u32], masks: &[u32], values: &[u32], space: &
     }
 }
 
-// A few writes of one mask.
-fn run(label: &[u8], ids: &[u32], values: &[u32]) {
+// A few writes of the values 1, 2, 3, ..
+fn masked(label: &[u8], ids: &[u32], masks: &[u32]) {
+    let mut space = [0u32; 16];
+    let values: &[u32] = &[1, 2, 3, 4, 5];
+    let n = ids.len();
+    if n <= values.len() {
+        pack_shown(label, ids, masks, &values[0..n], &mut space);
+    }
+}
+
+// Two of them.
+fn pair(label: &[u8], ids: [u32; 2], masks: [u32; 2]) {
+    masked(label, &ids, &masks);
+}
+
+// All with the mask 15.
+fn run(label: &[u8], ids: &[u32]) {
+    let masks: &[u32] = &[15u32; 8];
+    let n = ids.len();
+    if n <= masks.len() {
+        masked(label, ids, &masks[0..n]);
+    }
+}
+
+// Writes with the mask 15, and values of their own.
+fn valued(label: &[u8], ids: &[u32], values: &[u32]) {
     let mut space = [0u32; 16];
     let masks: &[u32] = &[15u32; 8];
     let n = ids.len();
@@ -103,27 +127,17 @@ fn run(label: &[u8], ids: &[u32], values: &[u32]) {
 
 fn runs() {
     // 01's two examples, and "Taking the longest run first: 8 words where 6 do"; 02: "The six-word examples gain the pair `0 0`"
-    run(b"41 41 42 43", &[0x41, 0x41, 0x42, 0x43], &[1, 2, 3, 4]);
-    run(b"41 41 42", &[0x41, 0x41, 0x42], &[1, 2, 3]);
-    run(
-        b"41 42 43 43 43",
-        &[0x41, 0x42, 0x43, 0x43, 0x43],
-        &[1, 2, 3, 4, 5],
-    );
+    run(b"41 41 42 43", &[0x41, 0x41, 0x42, 0x43]);
+    run(b"41 41 42", &[0x41, 0x41, 0x42]);
+    run(b"41 42 43 43 43", &[0x41, 0x42, 0x43, 0x43, 0x43]);
 }
 
 fn short_runs() {
-    run(b"no write", &[0; 0], &[0; 0]);
-    run(b"a lone write", &[0x107], &[0x1F71]);
+    run(b"no write", &[0; 0]);
+    valued(b"a lone write", &[0x107], &[0x1F71]);
     // refused: 3 at its index, and lengths that differ
-    run(b"41 300", &[0x41, 0x300], &[1, 2]);
-    run(b"two ids, one value", &[0x41, 0x42], &[1]);
-}
-
-// A few writes with masks of their own.
-fn masked(label: &[u8], ids: &[u32], masks: &[u32], values: &[u32]) {
-    let mut space = [0u32; 16];
-    pack_shown(label, ids, masks, values, &mut space);
+    run(b"41 300", &[0x41, 0x300]);
+    valued(b"two ids, one value", &[0x41, 0x42], &[1]);
 }
 
 // 02: "Writes with mask 0 are still checked, but no longer belong to an expansion: the packer drops them"
@@ -132,29 +146,26 @@ fn dropped() {
         b"41, then 99 with mask 0, then 42",
         &[0x41, 0x99, 0x42],
         &[15, 0, 15],
-        &[1, 2, 3],
     );
     masked(
         b"99 with mask 0 before 41, between and after",
         &[0x99, 0x41, 0x99, 0x41, 0x99],
         &[0, 15, 0, 15, 0],
-        &[1, 2, 3, 4, 5],
     );
     masked(
         b"41, 42 and 43, 42 with mask 0",
         &[0x41, 0x42, 0x43],
         &[15, 0, 15],
-        &[1, 2, 3],
     );
-    masked(b"mask 0 alone", &[0x41, 0x42], &[0, 0], &[1, 2]);
+    pair(b"mask 0 alone", [0x41, 0x42], [0, 0]);
 }
 
 // "still checked", and "the index in a packer's refusal .. still count every write given"
 fn still_checked() {
-    masked(b"mask 0, and then 300", &[0x41, 0x300], &[0, 15], &[1, 2]);
-    masked(b"300 with mask 0", &[0x41, 0x300], &[15, 0], &[1, 2]);
-    masked(b"23C with mask 0", &[0x41, 0x23C], &[15, 0], &[1, 2]);
-    masked(b"port data with mask 0", &[0x41, 0xE8], &[15, 0], &[1, 2]);
+    pair(b"mask 0, and then 300", [0x41, 0x300], [0, 15]);
+    pair(b"300 with mask 0", [0x41, 0x300], [15, 0]);
+    pair(b"23C with mask 0", [0x41, 0x23C], [15, 0]);
+    pair(b"port data with mask 0", [0x41, 0xE8], [15, 0]);
 }
 
 fn equal_lengths() {

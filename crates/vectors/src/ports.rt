@@ -1,4 +1,5 @@
 // The two ports: document 004, "GPUREG_FOG_LUT_DATAi" and "GPUREG_LIGHTING_LUT_DATAi", and document 01, "Ports".
+use crate::four;
 use crate::show;
 
 fn fog() {
@@ -45,22 +46,10 @@ fn light() {
         &[0x1FF, 0x100, 0x200],
     );
     // 004: "16-23 DA0-7"; the last table with a name
-    show::light_after(
-        b"light, DA7",
-        &[0x17FF, 0x000F01C5, 7, 0x000F01CF],
-        &[0x17FF],
-    );
+    four::light_after(b"light, DA7", [0x17FF, 0x000F01C5, 7, 0x000F01CF], 0x17FF);
     // 01: "Tables 2, 7 and 18h-1Fh aren't named in 000: their entries never change, but the index rises"
-    show::light_after(
-        b"light, table 2",
-        &[0x200, 0x000F01C5, 7, 0x000F01C8],
-        &[0x200],
-    );
-    show::light_after(
-        b"light, table 7",
-        &[0x7FF, 0x000F01C5, 7, 0x000F01C8],
-        &[0x7FF],
-    );
+    four::light_after(b"light, table 2", [0x200, 0x000F01C5, 7, 0x000F01C8], 0x200);
+    four::light_after(b"light, table 7", [0x7FF, 0x000F01C5, 7, 0x000F01C8], 0x7FF);
     show::light_after(
         b"light, table 1f",
         &[0x1F03, 0x000F01C5, 7, 0x000F01C8],

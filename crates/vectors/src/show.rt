@@ -79,33 +79,36 @@ pub(crate) fn judged(label: &[u8], list: &[u32]) {
     put_answer(label, reader::judge_list(list));
 }
 
-// The answer, and the cells of these ids.
-pub(crate) fn cells_after(label: &[u8], list: &[u32], ids: &[u32]) {
+// The answer, the cells of these ids, and these entries of the fog table and of the light tables, numbered through all of them.
+fn state_after(
+    label: &[u8],
+    list: &[u32],
+    ids: &[u32],
+    fog_entries: &[u32],
+    light_entries: &[u32],
+) {
     let mut cells = [0u32; 768];
     let mut fog = [0u32; 128];
     let mut light = [0u32; 6144];
     put_reading(label, reader::read(&mut cells, &mut fog, &mut light, list));
     put_words(b"cell ", &cells, ids);
+    put_words(b"fog ", &fog, fog_entries);
+    put_words(b"light ", &light, light_entries);
+}
+
+// The answer, and the cells of these ids.
+pub(crate) fn cells_after(label: &[u8], list: &[u32], ids: &[u32]) {
+    state_after(label, list, ids, &[], &[]);
 }
 
 // The answer, the fog index, and these fog entries.
 pub(crate) fn fog_after(label: &[u8], list: &[u32], entries: &[u32]) {
-    let mut cells = [0u32; 768];
-    let mut fog = [0u32; 128];
-    let mut light = [0u32; 6144];
-    put_reading(label, reader::read(&mut cells, &mut fog, &mut light, list));
-    put_words(b"cell ", &cells, &[0xE6]);
-    put_words(b"fog ", &fog, entries);
+    state_after(label, list, &[0xE6], entries, &[]);
 }
 
-// The answer, the light index, and these light entries, numbered through all tables.
+// The answer, the light index, and these light entries.
 pub(crate) fn light_after(label: &[u8], list: &[u32], entries: &[u32]) {
-    let mut cells = [0u32; 768];
-    let mut fog = [0u32; 128];
-    let mut light = [0u32; 6144];
-    put_reading(label, reader::read(&mut cells, &mut fog, &mut light, list));
-    put_words(b"cell ", &cells, &[0x1C5]);
-    put_words(b"light ", &light, entries);
+    state_after(label, list, &[0x1C5], &[], entries);
 }
 
 fn put_count(label: &[u8], n: usize) {
@@ -157,9 +160,20 @@ fn gone_on(going: Going) -> Progress {
     }
 }
 
+// The reading goes on by a part.
+fn fed(
+    p: Progress,
+    cells: &mut [u32],
+    fog: &mut [u32],
+    light: &mut [u32],
+    part: &[u32],
+) -> Progress {
+    gone_on(pieces::feed(p, cells, fog, light, part))
+}
+
 // Three parts fed to a reader over states of zeros: both numbers at the close, how many words had come after each part, and the
 // live state's cells of these ids.
-pub(crate) fn in_parts(label: &[u8], first: &[u32], second: &[u32], third: &[u32], ids: &[u32]) {
+fn in_parts(label: &[u8], first: &[u32], second: &[u32], third: &[u32], ids: &[u32]) {
     let mut cells = [0u32; 768];
     let mut fog = [0u32; 128];
     let mut light = [0u32; 6144];
@@ -174,21 +188,21 @@ pub(crate) fn in_parts(label: &[u8], first: &[u32], second: &[u32], third: &[u32
         &mut spare_fog,
         &mut spare_light,
     ));
-    let p = gone_on(pieces::feed(
+    let p = fed(
         opened,
         &mut spare_cells,
         &mut spare_fog,
         &mut spare_light,
         first,
-    ));
-    let q = gone_on(pieces::feed(
+    );
+    let q = fed(
         p,
         &mut spare_cells,
         &mut spare_fog,
         &mut spare_light,
         second,
-    ));
-    let r = gone_on(pieces::feed(q, &mut spare_cells, &mut spare_fog, &mut spare_light, third));
+    );
+    let r = fed(q, &mut spare_cells, &mut spare_fog, &mut spare_light, third);
     let closed = pieces::close(
         r,
         &mut cells,
@@ -204,6 +218,23 @@ pub(crate) fn in_parts(label: &[u8], first: &[u32], second: &[u32], third: &[u32
     put_words(b"cell ", &cells, ids);
 }
 
+// The same of a list that is cut at two places.
+pub(crate) fn cut_twice(label: &[u8], list: &[u32], first: usize, second: usize, ids: &[u32]) {
+    if list.len() < second {
+        return;
+    }
+    if second < first {
+        return;
+    }
+    in_parts(
+        label,
+        &list[0..first],
+        &list[first..second],
+        &list[second..],
+        ids,
+    );
+}
+
 // Both numbers of the second of two lists, which are read one after the other into a state of zeros.
 pub(crate) fn counts_after(label: &[u8], before: &[u32], list: &[u32]) {
     let mut cells = [0u32; 768];
@@ -211,6 +242,11 @@ pub(crate) fn counts_after(label: &[u8], before: &[u32], list: &[u32]) {
     let mut light = [0u32; 6144];
     reader::read(&mut cells, &mut fog, &mut light, before);
     put_counts(label, reader::read(&mut cells, &mut fog, &mut light, list));
+}
+
+// Both numbers of a list.
+pub(crate) fn counts(label: &[u8], list: &[u32]) {
+    counts_after(label, &[], list);
 }
 
 fn put_written(label: &[u8], answer: Written) {
@@ -237,4 +273,9 @@ pub(crate) fn written_after(label: &[u8], before: &[u32], id: u32, mask: u32, va
         label,
         registers::write(&mut cells, &mut fog, &mut light, id, mask, value),
     );
+}
+
+// What a single write tells on a state of zeros.
+pub(crate) fn written(label: &[u8], id: u32, mask: u32, value: u32) {
+    written_after(label, &[], id, mask, value);
 }

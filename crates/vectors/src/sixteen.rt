@@ -1,4 +1,5 @@
 // The sixteen-byte rule, and writes with mask 0: request 3 of document 02.
+use crate::four;
 use crate::show;
 
 // "Lists whose words aren't a multiple of 4 are now refusal 15, place 0, tested after 1 and before any command"
@@ -17,41 +18,38 @@ fn lengths() {
         b"the end of a buffer in an odd pair",
         &[0x12345678, 0x000F0010],
     );
-    show::judged(b"the end of a buffer", &[0, 0, 0x12345678, 0x000F0010]);
+    four::judged(b"the end of a buffer", [0, 0, 0x12345678, 0x000F0010]);
+}
+
+// n words, all zero, that are read.
+fn zeros(label: &[u8], n: usize) {
+    let words: &[u32] = &[0u32; 65538];
+    if n <= words.len() {
+        show::cells_after(label, &words[0..n], &[]);
+    }
 }
 
 // "after 1"
 fn limit() {
-    let words = [0u32; 65538];
-    show::cells_after(b"65,534 words", &words[..65534], &[]);
-    show::cells_after(b"65,536 words", &words[..65536], &[]);
-    show::cells_after(b"65,537 words", &words[..65537], &[]);
-    show::cells_after(b"65,538 words", &words, &[]);
+    zeros(b"65,534 words", 65534);
+    zeros(b"65,536 words", 65536);
+    zeros(b"65,537 words", 65537);
+    zeros(b"65,538 words", 65538);
 }
 
 // "Writes with mask 0 are still checked, but no longer belong to an expansion .. the counts of an expansion leave them out"
 fn mask_0() {
-    show::counts_after(
-        b"41, then 42 with mask 0",
-        &[],
-        &[1, 0x000F0041, 2, 0x00000042],
-    );
-    show::counts_after(
+    four::counts(b"41, then 42 with mask 0", [1, 0x000F0041, 2, 0x00000042]);
+    show::counts(
         b"41 to 43 with mask 0, then 44",
-        &[],
         &[1, 0x80200041, 2, 3, 4, 0x000F0044, 0, 0],
     );
-    show::counts_after(b"300 with mask 0", &[], &[1, 0x000F0041, 2, 0x00000300]);
-    show::counts_after(
+    four::counts(b"300 with mask 0", [1, 0x000F0041, 2, 0x00000300]);
+    show::counts(
         b"23B and 23C with mask 0",
-        &[],
         &[1, 0x000F0041, 0, 0, 1, 0x8010023B, 2, 0],
     );
-    show::counts_after(
-        b"fog data with mask 0",
-        &[],
-        &[1, 0x000F0041, 2, 0x000000E8],
-    );
+    four::counts(b"fog data with mask 0", [1, 0x000F0041, 2, 0x000000E8]);
 }
 
 pub(crate) fn all() {
