@@ -1,4 +1,4 @@
--- Runs of writes, and that the expansion of a command in a list is one. Assumes nothing.
+-- Runs of writes, and that the writes of a command in a list, mask 0 too, are one. Assumes nothing.
 use mathlib.Core.Path.{_≡_, refl}
 use mathlib.Core.List.{List, [], _∷_}
 use Prim.Native.Nat.{ℕ, zero, suc, _+_, _-_, _≤_, _<_}

@@ -15,9 +15,12 @@ use Rattle.registers.specs.Single.{told as write-told, writeAnswer, writeState}
 use Rattle.registers.specs.declared.Written.{Written}
 use Rattle.registers.proofs.write.Reads as write
 use Rattle.registers.proofs.write.Kinds as write-kinds
+use Rattle.reader.specs.ListVerdict.{verdict}
 use Rattle.reader.specs.Read.{told as list-told, toldBoth, readAnswers, readState}
 use Rattle.reader.specs.declared.ListVerdict.{ListVerdict}
 use Rattle.reader.specs.declared.Reading.{Reading}
+use Rattle.reader.proofs.judge_list.Reads as judge
+use Rattle.reader.proofs.judge_list.Kinds as judge-kinds
 use Rattle.reader.proofs.read.Reads as read
 use Rattle.reader.proofs.read.Kinds as read-kinds
 use Rattle.pieces.specs.Pieces.{opening, openedSpare, feeding, fedSpare, closeAnswers, closeProgress, closedLive, closedSpare}
@@ -67,6 +70,14 @@ pub record ReadCall (s : State) (l : List ℕ) (answer : Reading) (t : State) : 
   pub state : st (now (lent .0)) (now (lent .1 .0)) (now (lent .1 .1 .0)) ≡ s
   pub list : now (lent .1 .1 .1 .0) ≡ l
   pub after : st (now (left .0)) (now (left .1 .0)) (now (left .1 .1 .0)) ≡ t
+
+-- `reader::judge_list`, lent the list l
+pub record JudgeCall (l : List ℕ) (answer : ListVerdict) : Type 0 where
+  pub lifetimes : Lfts 1
+  pub lent : Dens lifetimes judge-kinds.ps
+  pub left : AtExit (endedOf 1 judge-kinds.ps judge-kinds.r) lifetimes
+  pub promise : judge.Post lifetimes lent answer left
+  pub list : now (lent .0) ≡ l
 
 -- `pieces::open`, lent the live state s, which it only reads, and the spare state t
 pub record OpenCall (s t : State) (answer : Going) (t′ : State) : Type 0 where
@@ -153,6 +164,9 @@ write-call c = rw (← c .state, ← c .given, ← c .after) (c .promise)
 
 pub read-call : {s t : State} {l : List ℕ} {a : Reading} → ReadCall s l a t → (toldBoth a ≡ readAnswers s l) × (t ≡ readState s l)
 read-call c = rw (← c .state, ← c .list, ← c .after) (c .promise)
+
+pub judge-call : {l : List ℕ} {a : ListVerdict} → JudgeCall l a → list-told a ≡ verdict l
+judge-call c = rw (← c .list) (c .promise)
 
 pub open-call : {live spare t : State} {a : Going} → OpenCall live spare a t → (a ≡ opening live spare) × (t ≡ openedSpare live spare)
 open-call c = let q = rw (c .live, c .spare, c .after) at (c .promise) in (q .0, q .1 .0)

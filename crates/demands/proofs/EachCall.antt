@@ -16,7 +16,7 @@ use Rattle.reader.specs.Read.{toldBoth}
 use Rattle.registers.specs.Applied.{applyAll}
 use Rattle.copies.specs.Copy.{taken}
 use Rattle.parts.specs.Progress.{fresh, after, made, heldAt, between, faultNumber, closing}
-use Rattle.parts.proofs.Closing.{closes-odd}
+use Rattle.parts.proofs.Closing.{closes-long, closes-odd}
 use Rattle.pieces.specs.Pieces.{told, bothSized, fed}
 use Rattle.parts.specs.declared.Progress.{Progress}
 use Rattle.pieces.specs.declared.Going.{Going}
@@ -181,7 +181,11 @@ close-numbers {p} n x k e v =
     let y : closing p ≡ refused n x = neither-given (closing p) n x (p .differences) (sym v ∙ told-closing k e) in
     rw y at (close-numbered p)
 
--- "also at the close of 1)": after 1 and before any command
+-- "tested after 1 and before any command, also at the close of 1)", from any progress
+pub close-long : {p : Progress} {live spare live′ spare′ : State} {c : Closed} → CloseCall p live spare c live′ spare′
+    → bothSized live spare ≡ true → 65536 < p .come → toldBoth (c .verdict) ≡ neither 1 0
+close-long {p} k e h = told-closing k e ∙ rw (closes-long p h)
+
 pub close-illegal : {p : Progress} {live spare live′ spare′ : State} {c : Closed} → CloseCall p live spare c live′ spare′
     → bothSized live spare ≡ true → p .come ≤ 65536 → (p .come % 4 ≡ 0 → ⊥) → toldBoth (c .verdict) ≡ neither 15 0
 close-illegal {p} k e h m = told-closing k e ∙ rw (closes-odd p h m)

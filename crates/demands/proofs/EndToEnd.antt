@@ -107,7 +107,8 @@ pub record Acceptable (s : State) (l : List ℕ) : Type 0 where
   pub form : wellFormed l ≡ true
   pub allowed : allAllowed (allWrites l) ≡ true
 
--- what reading then gives: the number of writes in the expansion, and how many of them made a difference
+-- what reading then gives: the number of writes in the expansion, and how many of them made a difference; "the counts of an expansion leave
+-- them out", those of mask 0
 abbrev pub countsOf : State → List ℕ → Counts
 countsOf s l = record { writes = length (expansion l); differences = differences s (expansion l) }
 

@@ -1,6 +1,7 @@
--- A run that is packed in parts. The parts' lists, joined, say the whole run, each filled by itself or all of them once; filled once they have
--- at most two words a seam more than its shortest list, and none for a seam that no command can go across. Of runs without writes of mask
--- 0: the list written for any other run is that of what is kept of it. Assumes nothing.
+-- A run that is packed in parts. The parts' lists, joined, say the whole run, each filled by itself or all of them once. Before filling they
+-- have at most two words a seam more than its shortest list, and none for a seam that no command can go across; filled once, that rounded up
+-- to a multiple of 4; each filled by itself, at most four words a seam. Of runs without writes of mask 0: the list written for any other run
+-- is that of what is kept of it. Assumes nothing.
 use mathlib.Core.Path.{_≡_, refl, _∙_}
 use mathlib.Core.Bool.{Bool, true, false}
 use mathlib.Core.List.{List, [], _∷_, _++_, append-nil}
@@ -112,7 +113,7 @@ by-seam : (a b : List Write) (rest : List (List Write)) (t : Bool) → apart a b
 by-seam a b rest true e n = omega (arith, packed-apart a (joinedRun (b ∷ rest)) (apart-joined a b (joinedRun rest) n e))
 by-seam a b rest false e n = omega (arith, packed-seam a (joinedRun (b ∷ rest)))
 
--- the parts after the first aren't empty
+-- the parts after the first aren't empty: one of which nothing is kept has no words, and can be left out
 abbrev pub EachSome : List (List Write) → Type 0
 EachSome [] = Unit {0}
 EachSome (b ∷ rest) = (1 ≤ length b) × EachSome rest
@@ -124,8 +125,7 @@ packed-seams a (b ∷ bs) n =
     omega
     (arith, packed-seams b bs (n .1), by-seam a b bs (apart a b) refl (n .0), length-append (packed a) (joinedLists (b ∷ bs)))
 
--- "At most two words a seam": before filling, at most two words for each seam that counts more than those of any accepted list that says the
--- run
+-- before filling, at most two words for each seam that counts more than those of any accepted list that says the run
 pub seams : (a : List Write) (rest : List (List Write)) (l : List ℕ) → EachSome rest → Says (joinedRun (a ∷ rest)) l
     → length (joinedLists (a ∷ rest)) ≤ length l + 2 * loose a rest
 seams a rest l n s =

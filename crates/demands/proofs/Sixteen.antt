@@ -1,5 +1,5 @@
 -- REQUEST 3, the sixteen-byte rule and writes with mask 0, from the contracts. The demands in this sense are in EndToEnd.antt, the close in
--- EachCall.antt (`close-illegal`), the counts in Differences.antt. Assumes nothing.
+-- EachCall.antt (`close-long`, `close-illegal`), the counts in Differences.antt. Assumes nothing.
 use mathlib.Core.Path.{_≡_, refl, sym, ap, _∙_}
 use mathlib.Core.Bool.{true, false}
 use mathlib.Core.List.{List, [], _++_}
@@ -13,7 +13,7 @@ use Rattle.numbers.proofs.Room.{lengths-level}
 use Rattle.words.specs.Writes.{Write, kept}
 use Rattle.words.specs.Commands.{legal}
 use Rattle.registers.specs.State.{State, sized}
-use Rattle.registers.specs.Applied.{applyAll}
+use Rattle.registers.specs.Applied.{applyAll, differences}
 use Rattle.reader.specs.ListVerdict.{verdict}
 use Rattle.reader.specs.Read.{readAnswer, readAnswers, readState}
 use Rattle.reader.specs.declared.ListVerdict.{ListVerdict}
@@ -33,9 +33,9 @@ use Rattle.packer.specs.declared.Packed.the-variants as packer
 use Rattle.packer.proofs.Once.{told-one as pack-told-one}
 use Rattle.demands.specs.Said.{Said}
 use Rattle.demands.specs.Refusals.{OneLength}
-use Rattle.demands.proofs.Calls.{ReadCall, read-call, WritesCall, writes-call, PackCall, pack-call}
+use Rattle.demands.proofs.Calls.{JudgeCall, judge-call, ReadCall, read-call, WritesCall, writes-call, PackCall, pack-call}
 use Rattle.demands.proofs.Reading.{refused-list}
-use Rattle.demands.proofs.Packing.{room}
+use Rattle.demands.proofs.Packing.{no-room-then, room}
 use Rattle.demands.proofs.EndToEnd.{packed-put, pack-then-read}
 use Rattle.demands.proofs.Taken.{Words}
 use Rattle.demands.proofs.Dropped.{dropped-same}
@@ -58,6 +58,11 @@ unfolding readAnswers readAnswer
 read-long {s} {t} {l} {r} c z h =
     let a : readAnswer s l ≡ refused 1 0 = rw (z, lt-leb (length l) 65536 h) in
     (both-one r _ (read-call c .0 ∙ rw a), read-call c .1 ∙ refused-list s l 1 0 a)
+
+-- `judge_list` too, whatever its length: it is lent no state, and tests no 1
+pub judge-illegal : {l : List ℕ} {r : ListVerdict} → JudgeCall l r → legal l ≡ false
+    → r ≡ list-verdict.Refused (record { number = 15; place = 0 })
+judge-illegal {l} {r} c e = told-one r _ (judge-call c ∙ illegal l e)
 
 -- and for a list's writes
 pub writes-illegal : {l is ms vs is′ ms′ vs′ : List ℕ} {r : ListVerdict} → WritesCall l is ms vs r is′ ms′ vs′ → OneLength is ms vs
@@ -82,6 +87,16 @@ pub drops-decide : {is ms vs is₂ ms₂ vs₂ old new old₂ new₂ : List ℕ}
     → PackCall is₂ ms₂ vs₂ old₂ (packer.Words m) new₂ → kept (writes is ms vs) ≡ kept (writes is₂ ms₂ vs₂) → take n new ≡ take m new₂
 drops-decide p q e = packed-put p .1 ∙ ap (λ (ws : List Write). filled (packed ws)) e ∙ sym (packed-put q .1)
 
+-- and on the words needed where there is no room
+pub drops-need : {is ms vs is₂ ms₂ vs₂ old new old₂ new₂ : List ℕ} {n m : ℕ}
+    → PackCall is ms vs old (packer.Refused (record { number = 10; place = n })) new
+    → PackCall is₂ ms₂ vs₂ old₂ (packer.Refused (record { number = 10; place = m })) new₂
+    → kept (writes is ms vs) ≡ kept (writes is₂ ms₂ vs₂) → n ≡ m
+drops-need {is} {ms} {vs} {is₂} {ms₂} {vs₂} {old} {old₂ = old₂} {n = n} {m} p q e =
+    let a = no-room-then is ms vs (length old) n (sym (pack-call p .0)) in
+    let b = no-room-then is₂ ms₂ vs₂ (length old₂) m (sym (pack-call q .0)) in
+    a .1 ∙ ap (λ (ws : List Write). length (filled (packed ws))) e ∙ sym (b .1)
+
 -- a run with nothing left, the empty run too, is the empty list
 pub nothing-left : {is ms vs old new : List ℕ} {r : Packed} → PackCall is ms vs old r new → OneLength is ms vs → length is ≤ 4096
     → Said (writes is ms vs) → kept (writes is ms vs) ≡ [] → (r ≡ packer.Words 0) × (new ≡ old)
@@ -91,8 +106,14 @@ nothing-left {is} {ms} {vs} {old} {new} {r} p o few said e =
     let a = room is ms vs o few said old (rw none (omega arith)) in
     (pack-told-one r (packer.Words 0) (k .0 ∙ a .0 ∙ rw none), k .1 ∙ a .1 ∙ rw none)
 
--- and nothing is lost: what reading a packed list leaves is what all the writes given leave, those of mask 0 too
+-- and nothing is lost: what reading a packed list leaves, and how many writes it tells to have made a difference, is so of all the writes
+-- given, those of mask 0 too. Of the state it is asked that its cells are 32-bit words, as those of a lent buffer are: a masked replacement
+-- cuts larger numbers
 pub pack-then-read-all : {is ms vs old new : List ℕ} {n : ℕ} {s t : State} {r : Reading} → PackCall is ms vs old (packer.Words n) new
-    → ReadCall s (take n new) r t → sized s ≡ true → Words s → t ≡ applyAll s (writes is ms vs)
+    → ReadCall s (take n new) r t → sized s ≡ true → Words s
+    → let ws = writes is ms vs in
+    (r ≡ reading.Accepted (record { writes = length (kept ws); differences = differences s ws })) × (t ≡ applyAll s ws)
 pack-then-read-all {is} {ms} {vs} {s = s} p c z u =
-    pack-then-read p c z .1 ∙ dropped-same s (writes is ms vs) u z (packed-put p .0 .packable)
+    let read = pack-then-read p c z in
+    let same = dropped-same s (writes is ms vs) u z (packed-put p .0 .packable) in
+    (read .0 ∙ rw (same .0), read .1 ∙ same .1)

@@ -73,7 +73,8 @@ pub record OneRefused (is ms : List ℕ) (n p : ℕ) : Type 0 where
   pub first : (k : ℕ) → k < p → wrong (getD is k 0) (getD ms k 0) ≡ 0
   pub why : In n (9 ∷ 3 ∷ 4 ∷ 5 ∷ []) × (wrong (getD is p 0) (getD ms p 0) ≡ n)
 
--- THE WRITES OF A RUN: 7, 8, then the first write that is refused, with its index
+-- THE WRITES OF A RUN: 7, 8, then the first write that is refused, with its index. "Refusal 8, .. the index in a packer's refusal .. still
+-- count every write given .., mask 0 too"
 abbrev pub RunRefused : List ℕ → List ℕ → List ℕ → ℕ → ℕ → Type 0
 RunRefused is ms vs n p =
     ((n ≡ 7) × (p ≡ 0) × (OneLength is ms vs → ⊥)) ⊎ ((n ≡ 8) × (p ≡ 0) × OneLength is ms vs × (4096 < length is))

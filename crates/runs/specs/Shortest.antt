@@ -61,6 +61,6 @@ pub record Shortest (ws : List Write) (l : List ℕ) : Type 0 where
   pub fills : l ≡ filled unfilled
   pub short : length l ≤ 2 * length ws + 2
 
--- a list of 32-bit words
+-- a list of 32-bit words; in a list of naturals a header of 2³² or more could say the same command
 abbrev pub Words32 : List ℕ → Type 0
 Words32 l = (j : ℕ) → getD l j 0 < 0x100000000
