@@ -10,6 +10,12 @@
 
 #include "bench.h"
 
+#ifdef BEFORE /* another build of the library stands in the plain version's place */
+static const char other[] = "before", other_ns[] = "before ns";
+#else
+static const char other[] = "plain C", other_ns[] = "plain ns";
+#endif
+
 enum { PAIRS = 1001, BURST_NS = 150000 }; /* odd, so that the median is one of them */
 
 /* Both begin a page, so that neither is better placed. */
@@ -113,9 +119,9 @@ int main(int count, char **words) {
     const char *only = count > 1 ? words[1] : "";
     unsigned cases = compare_random();
     if (cases == 0) return 1;
-    printf("benchmark: %u random cases: the same answers and buffers as plain C\n", cases);
+    printf("benchmark: %u random cases: the same answers and buffers as %s\n", cases, other);
     if (strcmp(only, "--compare") == 0) return 0;
-    printf("%-56s %9s %9s %7s %7s\n", "what", "ours ns", "plain ns", "ratio", "by read");
+    printf("%-56s %9s %9s %7s %7s\n", "what", "ours ns", other_ns, "ratio", "by read");
     for (size_t k = 0; k < workload_count; k++)
         if (strstr(workloads[k].what, only)) measure(&workloads[k]);
     if (greatest == 0) {

@@ -72,6 +72,13 @@ void equal_ids(struct run *run, size_t writes);
 void apart_ids(struct run *run, size_t writes);
 void two_at_work(uint32_t *cells);
 void six_at_work(uint32_t *cells);
+void one_replaces(uint32_t *cells);
+void six_add(uint32_t *cells);
+void six_modulate(uint32_t *cells);
+void six_interpolate(uint32_t *cells);
+void six_dot3(uint32_t *cells);
+void six_multiply_add(uint32_t *cells);
+void six_add_multiply(uint32_t *cells);
 
 /* workloads.c: what is measured. Both versions are handed the same, and each leaves what it leaves in a side of its own. */
 enum { CALLS = 4096 }; /* of a round, where a call is a decoding or a fragment */

@@ -202,3 +202,28 @@ void six_at_work(uint32_t *cells) {
     valid_cells(cells);
     mixed_tests(cells);
 }
+
+static const uint32_t stages[6] = {0xC0, 0xC8, 0xD0, 0xD8, 0xF0, 0xF8};
+
+/* Stage 0 hands on the primary colour, and the others hand on that. */
+void one_replaces(uint32_t *cells) {
+    six_at_work(cells);
+    for (int k = 0; k < 6; k++) idle_stage(&cells[stages[k]]);
+    cells[stages[0]] &= ~UINT32_C(0xF000F);
+}
+
+/* All six by one mode, on random sources and operands. */
+static void six_of(uint32_t *cells, uint32_t rgb, uint32_t alpha) {
+    six_at_work(cells);
+    for (int k = 0; k < 6; k++) {
+        uint32_t *modes = &cells[stages[k] + 2];
+        *modes = (*modes & 0xFFF0FFF0) | rgb | alpha << 16;
+    }
+}
+
+void six_add(uint32_t *cells) { six_of(cells, 2, 2); }
+void six_modulate(uint32_t *cells) { six_of(cells, 1, 1); }
+void six_interpolate(uint32_t *cells) { six_of(cells, 4, 4); }
+void six_dot3(uint32_t *cells) { six_of(cells, 7, 0); } /* alpha's own mode isn't read */
+void six_multiply_add(uint32_t *cells) { six_of(cells, 8, 8); }
+void six_add_multiply(uint32_t *cells) { six_of(cells, 9, 9); }

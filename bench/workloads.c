@@ -63,6 +63,13 @@ const struct workload workloads[] = {
     DRAWING("two stages at work, one state", two_at_work, CALLS),
     DRAWING("six random stages, one state for 64", six_at_work, 64),
     DRAWING("six random stages, many states", six_at_work, 1),
+    DRAWING("one stage, replace", one_replaces, 64),
+    DRAWING("six stages, add", six_add, 64),
+    DRAWING("six stages, modulate", six_modulate, 64),
+    DRAWING("six stages, interpolate", six_interpolate, 64),
+    DRAWING("six stages, dot3", six_dot3, 64),
+    DRAWING("six stages, multiply and add", six_multiply_add, 64),
+    DRAWING("six stages, add and multiply", six_add_multiply, 64),
     {"decode: valid states", DECODE, 1, CALLS, NULL, NULL, six_at_work, 0, 0},
 };
 const size_t workload_count = sizeof workloads / sizeof workloads[0];

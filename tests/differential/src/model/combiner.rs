@@ -94,25 +94,35 @@ fn alpha_operand<const F: u32>(code: u32, from: Colour) -> i32 {
     }
 }
 
+/// Division by 255, and what comes near it.
+fn over_255<const F: u32>(n: i32) -> i32 {
+    match F {
+        DIVIDED_BY_256 => n / 256,
+        DIVIDED_WITHOUT_1 => (n + n / 256) / 256,
+        DIVIDED_WITH_2 => (n + 2 + n / 256) / 256,
+        _ => n / 255,
+    }
+}
+
 /// One channel of every mode but dot3.
 fn combine<const F: u32>(mode: u32, [a, b, c]: [i32; 3]) -> i32 {
     match mode {
         0 => a,
         1 if F == MODULATE_ROUNDS => (a * b + 127) / 255,
-        1 => a * b / 255,
+        1 => over_255::<F>(a * b),
         2 => (a + b).min(255),
         3 if F == ADD_SIGNED_127 => (a + b - 127).clamp(0, 255),
         3 if F == ADD_SIGNED_WRAPS => (a + b - 128).min(255) & 0xFF,
         3 => (a + b - 128).clamp(0, 255),
         4 if F == INTERPOLATE_SIDES => (b * c + a * (255 - c)) / 255,
         4 if F == INTERPOLATE_ROUNDS => a * c / 255 + b * (255 - c) / 255,
-        4 => (a * c + b * (255 - c)) / 255,
+        4 => over_255::<F>(a * c + b * (255 - c)),
         5 if F == SUBTRACT_ABSOLUTE => (a - b).abs(),
         5 => (a - b).max(0),
         8 if F == MULTIPLY_ADD_CUT => ((a * b + 255 * c) / 255) & 0xFF,
-        8 => ((a * b + 255 * c) / 255).min(255),
+        8 => over_255::<F>(a * b + 255 * c).min(255),
         9 if F == ADD_MULTIPLY_SUM => (a + b) * c / 255,
-        9 => (a + b).min(255) * c / 255,
+        9 => over_255::<F>((a + b).min(255) * c),
         // Dot3 isn't made channel by channel; codes above 9 were refused.
         _ => 0,
     }
@@ -126,7 +136,7 @@ fn dot3<const F: u32>(operands: &[[i32; 3]; 3]) -> i32 {
     if sum < 0 && F != DOT3_ABSOLUTE {
         0
     } else {
-        (sum.abs() / 255).min(255)
+        over_255::<F>(sum.abs()).min(255)
     }
 }
 

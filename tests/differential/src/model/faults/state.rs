@@ -94,6 +94,9 @@ super::faults! {
     125 ALPHA_OPERANDS_SWAPPED "alpha operands green and blue swapped";
     126 SOURCE_ALPHA_RGB "RGB operand 2 reads the channel";
     127 CONSTANT_STAGE_0 "every stage's constant is stage 0's";
+    276 DIVIDED_BY_256 "division by 256 for 255";
+    277 DIVIDED_WITHOUT_1 "division by 255 one less at its multiples";
+    278 DIVIDED_WITH_2 "division by 255 one more below its multiples";
 
     // Fragment
     82 ALPHA_SIDES "alpha test's sides reversed";
