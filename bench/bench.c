@@ -42,7 +42,7 @@ static void must_agree(const char *what) {
 
 /* A workload that is refused, but for the one that has to be, would measure next to nothing. */
 static void must_answer(const struct workload *w, const struct side *s, uint32_t number) {
-    for (size_t k = 0; k < CALLS && k < (w->call == WRITE ? CALLS : w->times); k++) {
+    for (size_t k = 0; k < CALLS && k < (w->call == WRITE || w->drawn ? CALLS : w->times); k++) {
         if (pica_number(s->answers[k]) == number) continue;
         printf("%s: refusal %u\n", w->what, (unsigned)pica_number(s->answers[k]));
         exit(1);

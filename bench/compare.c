@@ -25,7 +25,7 @@ static int alike(enum call call, unsigned which, uint64_t a, uint64_t b, const v
         met[call][pica_number(a)]++;
         return 1;
     }
-    printf("%s case %u differs: ours %u, %u; plain %u, %u%s\n", names[call], which, (unsigned)pica_number(a), (unsigned)pica_value(a),
+    printf("%s case %u differs: ours %u, %u; the other %u, %u%s\n", names[call], which, (unsigned)pica_number(a), (unsigned)pica_value(a),
            (unsigned)pica_number(b), (unsigned)pica_value(b), memcmp(x, y, size) ? "; the buffers too" : "");
     return 0;
 }

@@ -9,7 +9,7 @@ ghost use Rattle.combiner.specs.Words.{dotIn};
 use crate::dot;
 use crate::operands;
 
-// By additions and shifts: 257 times 65,537 is 16,843,009, and n is added once more.
+// By additions and shifts: 257 n, then 65,537 times that, which is 16,843,009 n, and n once more.
 fn times_16843010(n: u32) -> u64
     requires { ⌜ n ≤ 195075 ⌝ }
     ensures { λ r. ⌜ r ≡ n * 16843010 ⌝ }
@@ -19,8 +19,8 @@ fn times_16843010(n: u32) -> u64
     times_257 + (times_257 << 16) + wide
 }
 
-// The one division by 255. 255 times 16,843,010 is 2^32 + 254, and the 254 add up to a quotient too large only from 16,909,559 on; the
-// largest number divided is a dot3 of equal corners, 3 times 255 times 255.
+// The one division by 255. 255 times 16,843,010 is 2^32 + 254, so that the product is 2^32 n / 255 and 254 n / 255 more, which reaches the
+// next quotient first at 16,909,559. The largest number divided is a dot3 of equal corners, 3 times 255 times 255.
 pub fn over_255(n: u32) -> u32
     requires { ⌜ n ≤ 195075 ⌝ }
     ensures { λ r. ⌜ r ≡ n / 255 ⌝ }
