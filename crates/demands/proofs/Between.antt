@@ -146,8 +146,8 @@ pub writes-lists : {l is ms vs is′ ms′ vs′ : List ℕ} {r : ListVerdict} �
     → r ≡ list-verdict.Accepted (length (expansion l))
 writes-lists {l} {is} {ms} {vs} {r = r} c o h m f a k = told-one r _ (writes-call c .0 ∙ writes-given l is ms vs o h m f a k)
 
--- "PACKING WHAT IT GIVES TAKES AT MOST THE LIST'S OWN WORDS", for a list of at most 4,096 writes in its expansion: the packer's list says the same writes in
--- no more words, or the words that it asks for are no more
+-- "PACKING WHAT IT GIVES TAKES AT MOST THE LIST'S OWN WORDS", for a list of at most 4,096 writes in its expansion: the packer's list says
+-- the same writes in no more words, or the words that it asks for are no more
 pub writes-then-pack : {l is ms vs is′ ms′ vs′ old new : List ℕ} {n : ℕ} {r : Packed}
     → WritesCall l is ms vs (list-verdict.Accepted n) is′ ms′ vs′ → n ≤ 4096 → PackCall (take n is′) (take n ms′) (take n vs′) old r new
     → (m : ℕ) × (m ≤ length l)

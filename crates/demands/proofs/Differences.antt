@@ -101,8 +101,8 @@ module _ {s t : State} {w : Write} {d : Bool} (c : WriteCall s w (written.Done d
 -- A LIST
 
 -- "a read list should give, besides its number of writes, how many of them made a difference. That second number is the count over the
--- expansion, each write judged on the state left by those before it"; writes with mask 0 "no longer belong to an expansion: .. the counts of
--- an expansion leave them out"; that single writes in turn tell as many is `writes-then-write`, Between.antt
+-- expansion, each write judged on the state left by those before it"; writes with mask 0 "no longer belong to an expansion: .. the counts
+-- of an expansion leave them out"; that single writes in turn tell as many is `writes-then-write`, Between.antt
 module _ {s t : State} {l : List ℕ} {c : Counts} (r : ReadCall s l (reading.Accepted c) t) where
   pub read-counts : (c .writes ≡ length (expansion l)) × (c .differences ≡ differences s (expansion l))
   read-counts = let e = read-accepts-only r .1 in (ap (λ (x : Counts). x .writes) e, ap (λ (x : Counts). x .differences) e)
