@@ -72,8 +72,8 @@ writes-illegal {l} {is} {ms} {vs} {r = r} c o h e =
     told-one r _ (writes-call c .0 ∙ rw (lengths-level is ms vs (o .0) (o .1), le-leb (length l) 65536 h, illegal l e))
 
 -- "The packer fills with at most one pair, parameter 0 and header 0"; "Which list is written is still settled by document 01's rule on
--- lists before filling": the list that is put is one of that rule for the run that is left, and then nothing, or `0 0` where its words are no
--- multiple of 4
+-- lists before filling": the list that is put is one of that rule for the run that is left, and then nothing, or `0 0` where its words are
+-- no multiple of 4
 pub pack-fills : {is ms vs old new : List ℕ} {n : ℕ} → PackCall is ms vs old (packer.Words n) new
     → (l : List ℕ) × Rule (kept (writes is ms vs)) l × (take n new ≡ l ++ filling l)
 unfolding filled
