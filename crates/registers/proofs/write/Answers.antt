@@ -50,4 +50,4 @@ returns c =
     let k = sym c.is_sized.ensures ∙ c.if-not-is_sized.false in
     let d = write_done s w (fault_refusal s w k c.if-mask-gt15.false ∙ sym c.fault-why.ensures ∙ c.if-why-ne0.false) in
     let p = rw c.spread_mask-bytes.ensures at c.put_one-difference.ensures in
-    record { answer = ap answered (difference_told s w _ (p.0.0 ∙ omega arith)) ∙ d.0; state = p.1 ∙ d.1 }
+    record { answer = ap answered (difference_told s w _ (p.count.0 ∙ omega arith)) ∙ d.0; state = p.state ∙ d.1 }
