@@ -1,0 +1,15 @@
+-- The three buffers, one after another. Assumes nothing.
+use mathlib.Core.Path.{sym}
+use Rattle.copies.proofs.Copies.{taken_is}
+use Rattle.copies.proofs.take_state.Goals as goal
+
+pub returns : goal.returns
+returns c =
+    rw (
+      c.take_entries-2.ensures,
+      c.take_entries.ensures,
+      c.take_cells.ensures,
+      c.requires.lengths_2.1,
+      c.requires.lengths_2.2,
+    )
+    (sym (taken_is _ _))
