@@ -1,6 +1,8 @@
 // One command's writes applied to a state, one after another, by what the command writes to, with how many of them made a difference; and
 // when none of its writes can be at fault.
 // The contracts cite specs/Run.antt, specs/ToOne.antt, specs/Changes.antt and specs/Clear.antt.
+#![tactic(auto)]
+
 ghost use Rattle.std.specs.Prelude.{◌≡◌, List, ℕ, ◌+◌, ◌≤◌, ◌<◌, min, eqb, length};
 ghost use Rattle.numbers.specs.Pick.{pick};
 ghost use Rattle.numbers.specs.Bits.{merge};

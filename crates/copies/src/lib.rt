@@ -1,4 +1,6 @@
 // What one state takes of another: the held bits of its cells, and its entries. The contracts cite specs/Copy.antt.
+#![tactic(auto)]
+
 ghost use Rattle.std.specs.Prelude.{◌≡◌, ◌<◌, length};
 ghost use Rattle.registers.specs.State.{st, Lengths};
 ghost use Rattle.registers.specs.Tables.{LookupTables};

@@ -1,1 +1,3 @@
+#![tactic(auto)]
+
 // Plain numbers: definitions in specs/, their laws in proofs/. No function.

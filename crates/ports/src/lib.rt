@@ -1,5 +1,7 @@
 // What a write does to one word under its mask, and a data write or an upload to the two table ports. The contracts cite
 // specs/Ports.antt and specs/Uploads.antt.
+#![tactic(auto)]
+
 ghost use Rattle.std.specs.Prelude.{◌≡◌, ◌+◌, ◌≤◌, ◌<◌, min, length};
 ghost use Rattle.numbers.specs.Bits.{spread, merge};
 ghost use Rattle.ports.specs.Ports.{entry, named, rise, fog_cells, fog_entries, light_cells, light_entries};

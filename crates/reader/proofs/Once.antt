@@ -5,7 +5,6 @@ use Prim.Native.Nat.{ℕ}
 use native.Mathlib.Omega.{arith}
 use contract.Lifetimes.{Lfts}
 use borrow.Fn.Kinds.{Dens}
-use Rattle.numbers.specs.Answer.{answered, refused, both, neither}
 use Rattle.numbers.specs.Settled.{Settles, settled}
 use Rattle.words.proofs.Once.{refusal_one}
 use Rattle.registers.specs.State.{st}

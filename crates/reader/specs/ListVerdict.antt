@@ -1,6 +1,6 @@
 -- The verdict on a list: 15; then commands in order, each 2 first and then its writes; the first write at fault ends the reading. Writes
 -- with mask 0 are checked like any others, and not counted. 1 isn't tested here: whoever reads a list tests it before.
-use Rattle.std.specs.Prelude.{Bool, true, false, ◌&&◌, List, [], ◌∷◌, ℕ, ◌+◌, eqb, length}
+use Rattle.std.specs.Prelude.{Bool, true, ◌&&◌, List, [], ◌∷◌, ℕ, ◌+◌, eqb, length}
 use Rattle.numbers.specs.Pick.{pick}
 use Rattle.numbers.specs.Answer.{Answer, answered, refused, unless_fault}
 use Rattle.words.specs.Writes.{Write, kept, fault_of, allowed}

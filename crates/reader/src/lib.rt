@@ -1,5 +1,7 @@
 // A list read into a state: judged whole, and then applied, with its writes that made a difference counted on the way. The contracts cite
 // specs/ListVerdict.antt and specs/Read.antt.
+#![tactic(auto)]
+
 ghost use Rattle.std.specs.Prelude.{◌≡◌, true, ◌+◌, ◌<◌, ◌≤◌, length};
 ghost use Rattle.numbers.specs.Pick.{pick};
 ghost use Rattle.words.specs.Commands.{all_writes, expansion, well_formed};

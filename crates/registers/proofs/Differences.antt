@@ -3,7 +3,7 @@
 use mathlib.Core.Path.{◌≡◌, refl, sym, ap, ◌∙◌}
 use mathlib.Core.Bool.{Bool, true, false, not}
 use mathlib.Core.List.{List, [], ◌∷◌, ◌++◌}
-use Prim.Native.Nat.{ℕ, zero, suc, ◌+◌, ◌≤◌, ◌<◌}
+use Prim.Native.Nat.{ℕ, ◌+◌, ◌≤◌, ◌<◌}
 use native.Mathlib.Decide.{dec_lt}
 use native.Mathlib.Omega.{arith}
 use lib.Bits.{bit_and}
@@ -15,9 +15,9 @@ use Rattle.numbers.specs.Pick.{pick}
 use Rattle.numbers.specs.Bits.{spread, merge}
 use Rattle.words.specs.Writes.{Write, fog_data, light_data}
 use Rattle.ports.specs.Ports.{rise, fog_cells, light_cells}
-use Rattle.registers.specs.State.{State, st, sized}
+use Rattle.registers.specs.State.{State, sized}
 use Rattle.registers.specs.Held.{bits_of}
-use Rattle.registers.specs.Applied.{cells_after, put, apply, apply_all, differs, difference, differences}
+use Rattle.registers.specs.Applied.{cells_after, apply, apply_all, differs, difference, differences}
 use Rattle.registers.proofs.Lookup.{held_has}
 use Rattle.registers.proofs.Sizes.{lengths}
 use Rattle.registers.proofs.Puts.{put_fog_data, put_light_data}

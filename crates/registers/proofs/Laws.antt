@@ -1,18 +1,16 @@
 -- Laws that a reader may hold the definitions to. Assumes nothing.
-use mathlib.Core.Path.{◌≡◌, refl, sym, ap, ◌∙◌}
+use mathlib.Core.Path.{◌≡◌, refl, ◌∙◌}
 use mathlib.Core.Bool.{Bool, true, false}
 use mathlib.Core.List.{List}
-use Prim.Native.Nat.{ℕ, zero, suc, ◌+◌, ◌*◌, ◌/◌, ◌%◌, ◌^◌, ◌<◌, ◌≤◌}
+use Prim.Native.Nat.{ℕ, zero, suc, ◌/◌, ◌^◌, ◌<◌, ◌≤◌}
 use native.Mathlib.Decide.{dec_lt}
 use native.Mathlib.Omega.{arith}
 use lib.Bits.{bit_and, and_le_r, and_zero_l, and_zero_r}
 use lib.Dec.{eqb}
 use lib.ListN.{length, get_or, set}
 use lib.Seq.{get_or-set_same, get_or-set_other, set-set, set_out}
-use borrow.Author.Tests.{ne_eqb}
-use Rattle.numbers.specs.Pick.{pick}
 use Rattle.numbers.specs.Bits.{bit, spread, merge, pick_bit}
-use Rattle.numbers.specs.Answer.{Answer, answered, refused, unless_fault}
+use Rattle.numbers.specs.Answer.{answered, refused, unless_fault}
 use Rattle.numbers.proofs.Merge.{and_bit, merge_bit, merge_twice, spread_bit}
 use Rattle.words.specs.Writes.{Write, fog_data, light_data}
 use Rattle.registers.specs.State.{State, st}

@@ -1,12 +1,12 @@
 -- What a single write answers and leaves, by the tests that code makes. Assumes nothing.
-use mathlib.Core.Path.{◌≡◌, refl, sym}
+use mathlib.Core.Path.{◌≡◌, refl}
 use mathlib.Core.Bool.{Bool, true, false, not}
 use Prim.Native.Nat.{ℕ, zero, suc, ◌<◌, ◌≤◌}
 use lib.Dec.{eqb}
 use borrow.Author.Tests.{lt-ltb, le-ltb}
 use Rattle.numbers.specs.Bits.{spread}
 use Rattle.numbers.specs.Pick.{pick}
-use Rattle.numbers.specs.Answer.{Answer, answered, refused, unless_fault}
+use Rattle.numbers.specs.Answer.{answered, refused, unless_fault}
 use Rattle.words.specs.Writes.{Write, fault_of}
 use Rattle.registers.specs.State.{State, sized}
 use Rattle.registers.specs.Applied.{apply, differs, difference}

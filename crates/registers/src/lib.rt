@@ -1,5 +1,7 @@
 // What one write does to a state of three lent buffers, and whether it made a difference. The contracts cite specs/Applied.antt and
 // specs/Single.antt.
+#![tactic(auto)]
+
 ghost use Rattle.std.specs.Prelude.{◌≡◌, not, ◌+◌, ◌*◌, ◌%◌, ◌<◌, ◌≤◌, eqb, get_or};
 ghost use Rattle.numbers.specs.Pick.{pick};
 ghost use Rattle.words.specs.Writes.{writing};

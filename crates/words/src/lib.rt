@@ -1,5 +1,7 @@
 // A list of command words: a header taken apart, and what is wrong with a single write.
 // The contracts cite specs/Header.antt, specs/Taken.antt and specs/Writes.antt.
+#![tactic(auto)]
+
 ghost use Rattle.std.specs.Prelude.{◌≡◌};
 ghost use Rattle.words.specs.Header.{id_of, mask_of, count_of, step_of, words_with};
 ghost use Rattle.words.specs.Taken.{head_of, told, head_numbers, refusal_in};

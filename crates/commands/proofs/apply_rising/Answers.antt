@@ -1,10 +1,9 @@
 -- The invariant: what is left of the command leads from here to the state that all of it leads to. Assumes nothing.
-use mathlib.Core.Path.{◌≡◌, refl, sym, ◌∙◌}
-use Prim.Native.Nat.{◌+◌, ◌≤◌}
+use mathlib.Core.Path.{refl, sym, ◌∙◌}
+use Prim.Native.Nat.{◌+◌}
 use native.Mathlib.Omega.{arith}
 use Rattle.words.specs.Writes.{writing}
-use Rattle.registers.specs.State.{st, Lengths}
-use Rattle.registers.specs.Applied.{apply_all, differences}
+use Rattle.registers.specs.State.{st}
 use Rattle.registers.proofs.Differences.{differences_more}
 use Rattle.commands.specs.Run.{run_from}
 use Rattle.commands.proofs.Applying.{apply_more, run_applied, run_applies, run_counted, run_counts}

@@ -13,9 +13,12 @@ returns-then-id c =
     let first = c.put_fog.ensures in
     let one = c.if-h-ne0.false in
     let f = c.if-id.true in
-    record { count = omega (arith, fog_counts a.h one a.first a.list.now a.from a.cells.now a.fog.now a.light.now s f); state = rw (up.0, up.1, first.0, first.1)
+    record {
+      count = omega (arith, fog_counts a.h one a.first a.list.now a.from a.cells.now a.fog.now a.light.now s f);
+      state = rw (up.0, up.1, first.0, first.1)
           (sym (fog_command a.h one a.first a.list.now a.from a.cells.now a.fog.now a.light.now f
-          (omega (arith, c.requires.lengths.0.0)))) }
+          (omega (arith, c.requires.lengths.0.0))));
+    }
 
 pub returns-then-id-2 : goal.returns-then-id-2
 returns-then-id-2 c =
@@ -25,9 +28,12 @@ returns-then-id-2 c =
     let first = c.put_light.ensures in
     let one = c.if-h-ne0.false in
     let g = c.if-id-2.true in
-    record { count = omega (arith, light_counts a.h one a.first a.list.now a.from a.cells.now a.fog.now a.light.now s g); state = rw (up.0, up.1, first.0, first.1)
+    record {
+      count = omega (arith, light_counts a.h one a.first a.list.now a.from a.cells.now a.fog.now a.light.now s g);
+      state = rw (up.0, up.1, first.0, first.1)
           (sym (light_command a.h one a.first a.list.now a.from a.cells.now a.fog.now a.light.now g
-          (omega (arith, c.requires.lengths.0.0)))) }
+          (omega (arith, c.requires.lengths.0.0))));
+    }
 
 pub returns : goal.returns
 returns c =

@@ -37,6 +37,9 @@ returns c =
     let t = c.requires.to_one.0 in
     let bits = c.bits_held-bits.ensures in
     let bytes = c.spread_mask.ensures in
-    record { count = λ fog light. rw (c.count_changes.ensures, bits, bytes)
-          (sym (held_counts a.h t a.list.now (some (goal.at.returns c).Else-bits-eq0) a.cells.now fog light (inside (goal.at.returns c).Else-bits-eq0) a.first a.from)); state = λ fog light. rw (c.merged.ensures, bits, bytes, c.last_value-value.ensures)
-          (sym (held_command a.h t a.list.now (some (goal.at.returns c).Else-bits-eq0) a.cells.now fog light (inside (goal.at.returns c).Else-bits-eq0) a.first a.from)) }
+    record {
+      count = λ fog light. rw (c.count_changes.ensures, bits, bytes)
+          (sym (held_counts a.h t a.list.now (some (goal.at.returns c).Else-bits-eq0) a.cells.now fog light (inside (goal.at.returns c).Else-bits-eq0) a.first a.from));
+      state = λ fog light. rw (c.merged.ensures, bits, bytes, c.last_value-value.ensures)
+          (sym (held_command a.h t a.list.now (some (goal.at.returns c).Else-bits-eq0) a.cells.now fog light (inside (goal.at.returns c).Else-bits-eq0) a.first a.from));
+    }

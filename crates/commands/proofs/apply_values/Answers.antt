@@ -48,6 +48,9 @@ returns c =
     let bits = c.bits_held-bits.ensures in
     let bytes = c.spread_mask.ensures in
     let p : 0 < h.count = omega (arith, c.if-h-eq0.false) in
-    record { count = λ fog light. rw (c.many_changes.ensures.0, bits, bytes)
-          (sym (values_counted h t l (some (goal.at.returns c).Else-bits-eq0) a.cells.now fog light (inside (goal.at.returns c).Else-bits-eq0) a.from h.count p)); state = λ fog light. rw (c.merged.ensures, bits, bytes)
-          (sym (values_applied h t l (some (goal.at.returns c).Else-bits-eq0) a.cells.now fog light (inside (goal.at.returns c).Else-bits-eq0) a.from h.count p)) }
+    record {
+      count = λ fog light. rw (c.many_changes.ensures.0, bits, bytes)
+          (sym (values_counted h t l (some (goal.at.returns c).Else-bits-eq0) a.cells.now fog light (inside (goal.at.returns c).Else-bits-eq0) a.from h.count p));
+      state = λ fog light. rw (c.merged.ensures, bits, bytes)
+          (sym (values_applied h t l (some (goal.at.returns c).Else-bits-eq0) a.cells.now fog light (inside (goal.at.returns c).Else-bits-eq0) a.from h.count p));
+    }

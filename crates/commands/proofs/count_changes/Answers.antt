@@ -1,5 +1,4 @@
 -- By the number of values. Assumes nothing.
-use mathlib.Core.Path.{◌≡◌, sym, ◌∙◌}
 use native.Mathlib.Omega.{arith}
 use Rattle.commands.proofs.Changes.{changes_none}
 use Rattle.commands.proofs.count_changes.Goals as goal

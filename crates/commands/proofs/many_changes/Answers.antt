@@ -1,8 +1,6 @@
 -- The invariant: what is counted so far, with what is still to come from here, is what is counted of all. Assumes nothing.
-use mathlib.Core.Path.{◌≡◌, refl}
-use Prim.Native.Nat.{◌+◌, ◌≤◌}
+use mathlib.Core.Path.{refl}
 use native.Mathlib.Omega.{arith}
-use Rattle.commands.specs.Changes.{changes}
 use Rattle.commands.proofs.Changes.{changes_none, changes_next}
 use Rattle.commands.proofs.many_changes.Goals as goal
 

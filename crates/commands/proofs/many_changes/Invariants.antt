@@ -1,9 +1,7 @@
 -- The invariant: what is counted so far, with what is still to come from here, is what is counted of all. Assumes nothing.
-use mathlib.Core.Path.{◌≡◌, refl}
+use mathlib.Core.Path.{◌≡◌}
 use Prim.Native.Nat.{◌+◌, ◌≤◌}
-use native.Mathlib.Omega.{arith}
 use Rattle.commands.specs.Changes.{changes}
-use Rattle.commands.proofs.Changes.{changes_none, changes_next}
 use Rattle.commands.proofs.many_changes.Given as goal
 
 abbrev pub invariant-loop-left : goal.invariant-loop-left

@@ -1,8 +1,7 @@
 -- The invariant: the cells before i have taken. Assumes nothing.
 use mathlib.Core.Path.{◌≡◌, sym, ap, ◌∙◌}
-use Prim.Native.Nat.{ℕ, ◌-◌, ◌≤◌}
+use Prim.Native.Nat.{ℕ}
 use native.Mathlib.Omega.{arith}
-use lib.ListN.{length}
 use Rattle.copies.specs.Copy.{cell_taking, taking}
 use Rattle.copies.proofs.Copies.{taking_none, taking_next}
 use borrow.Author.Rules.{rules}

@@ -1,11 +1,8 @@
 -- The invariant: the cells before i have taken. Assumes nothing.
-use mathlib.Core.Path.{◌≡◌, sym, ap, ◌∙◌}
-use Prim.Native.Nat.{ℕ, ◌-◌, ◌≤◌}
-use native.Mathlib.Omega.{arith}
+use mathlib.Core.Path.{◌≡◌}
+use Prim.Native.Nat.{◌-◌, ◌≤◌}
 use lib.ListN.{length}
 use Rattle.copies.specs.Copy.{cell_taking, taking}
-use Rattle.copies.proofs.Copies.{taking_none, taking_next}
-use borrow.Author.Rules.{rules}
 use Rattle.copies.proofs.take_cells.Given as goal
 
 abbrev pub invariant-loop-i : goal.invariant-loop-i

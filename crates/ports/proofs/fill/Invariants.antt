@@ -1,11 +1,8 @@
 -- The invariant: what is left to fill leads from here to what all of it leads to. Assumes nothing.
-use mathlib.Core.Path.{◌≡◌, refl, sym, ◌∙◌}
+use mathlib.Core.Path.{◌≡◌}
 use Prim.Native.Nat.{◌+◌, ◌-◌, ◌≤◌}
-use native.Mathlib.Omega.{arith}
-use borrow.Author.Rules.{rules}
 use lib.ListN.{length}
 use Rattle.ports.specs.Uploads.{filled}
-use Rattle.ports.proofs.Uploads.{filled_done, filled_next}
 use Rattle.ports.proofs.fill.Given as goal
 
 abbrev pub invariant-loop-k : goal.invariant-loop-k

@@ -1,9 +1,7 @@
 -- The invariant: what is left to upload leads from here to what all of it leads to. Assumes nothing.
 use mathlib.Core.Path.{◌≡◌, sym, ◌∙◌}
-use Prim.Native.Nat.{◌+◌, ◌-◌, ◌≤◌, ◌<◌}
+use Prim.Native.Nat.{◌+◌, ◌-◌, ◌≤◌}
 use native.Mathlib.Omega.{arith}
-use lib.ListN.{length}
-use Rattle.ports.specs.Uploads.{uploaded}
 use Rattle.ports.proofs.Uploads.{uploaded_done, uploaded_stretch, wrapped_within}
 use Rattle.ports.proofs.upload.Goals as goal
 

@@ -1,10 +1,8 @@
 -- The invariant: what is left to upload leads from here to what all of it leads to. Assumes nothing.
-use mathlib.Core.Path.{◌≡◌, sym, ◌∙◌}
-use Prim.Native.Nat.{◌+◌, ◌-◌, ◌≤◌, ◌<◌}
-use native.Mathlib.Omega.{arith}
+use mathlib.Core.Path.{◌≡◌}
+use Prim.Native.Nat.{◌+◌, ◌<◌}
 use lib.ListN.{length}
 use Rattle.ports.specs.Uploads.{uploaded}
-use Rattle.ports.proofs.Uploads.{uploaded_done, uploaded_stretch, wrapped_within}
 use Rattle.ports.proofs.upload.Given as goal
 
 abbrev pub invariant-loop-left : goal.invariant-loop-left

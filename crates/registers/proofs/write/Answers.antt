@@ -1,6 +1,5 @@
 -- Each way out is one case of `writeAnswer` and `writeState`. Assumes nothing.
-use mathlib.Core.Path.{◌≡◌, sym, ap, ◌∙◌}
-use borrow.Author.Tests.{not-true, not-false}
+use mathlib.Core.Path.{sym, ap, ◌∙◌}
 use native.Mathlib.Omega.{arith}
 use Rattle.numbers.specs.Answer.{answered}
 use Rattle.words.specs.Writes.{writing}
