@@ -19,6 +19,7 @@ fn repository(name: &str, script: &str) -> Folder {
     fs::copy(own, folder.path(script)).unwrap();
     for source in [
         "crates/a/src/main.rt",
+        "crates/verdict/src/main.rt",
         "crates.txt",
         "cli/Cargo.toml",
         "bindings/rust/Cargo.toml",
@@ -159,8 +160,8 @@ fn pica_says_why_it_cannot_build() {
 fn rt(folder: &Folder) {
     let copy = folder.path("copy").display().to_string();
     let lines = format!(
-        "mkdir -p target/bin
-cat > target/bin/verdict << 'END'
+        "mkdir -p out
+cat > out/verdict << 'END'
 #!/usr/bin/env bash
 bytes=$(tee '{copy}' | wc -c)
 case $(head -c 1 '{copy}') in
@@ -168,7 +169,7 @@ case $(head -c 1 '{copy}') in
     *) [ $((bytes % 4)) = 0 ] && echo ok $bytes || echo input ;;
 esac
 END
-chmod +x target/bin/verdict"
+chmod +x out/verdict"
     );
     program(folder, "bin/rt", &lines);
 }

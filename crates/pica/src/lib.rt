@@ -1,5 +1,7 @@
-// The functions that C calls, thin over the library's entry points. Each answers one number: high 32 bits the refusal's number, 0 where it
+// What the functions that C calls do, thin over the library's entry points; `pica_c` exports them. Each answers one number: high 32 bits the refusal's number, 0 where it
 // answered; low 32 bits the answer, or the refusal's place. The contracts cite specs/Calls.antt.
+#![tactic(auto)]
+
 ghost use Rattle.std.specs.Prelude.{◌≡◌, length};
 ghost use Rattle.words.specs.Writes.{writing};
 ghost use Rattle.registers.specs.State.{st};
@@ -37,8 +39,7 @@ fn told(number: u32, value: usize) -> u64
 
 // A list read into a state: the number of writes in its expansion; in `differences` how many of them made a difference, untouched on a
 // refusal.
-#[unsafe(no_mangle)]
-pub extern "C" fn pica_read(
+pub fn pica_read(
     cells: &mut [u32],
     fog: &mut [u32],
     light: &mut [u32],
@@ -78,8 +79,7 @@ fn told_going(reader: &mut [u32; 12], g: Going) -> u64
 }
 
 // A list that arrives in pieces is opened: 0.
-#[unsafe(no_mangle)]
-pub extern "C" fn pica_open(
+pub fn pica_open(
     cells: &[u32],
     fog: &[u32],
     light: &[u32],
@@ -107,8 +107,7 @@ pub extern "C" fn pica_open(
 }
 
 // A part of the list is fed: how many words have come, held at 65,537.
-#[unsafe(no_mangle)]
-pub extern "C" fn pica_feed(
+pub fn pica_feed(
     spare_cells: &mut [u32],
     spare_fog: &mut [u32],
     spare_light: &mut [u32],
@@ -135,8 +134,7 @@ pub extern "C" fn pica_feed(
 }
 
 // The list is closed: the number of writes in its expansion; in `differences` how many of them made a difference, untouched on a refusal.
-#[unsafe(no_mangle)]
-pub extern "C" fn pica_close(
+pub fn pica_close(
     cells: &mut [u32],
     fog: &mut [u32],
     light: &mut [u32],
@@ -187,8 +185,7 @@ fn one_if(difference: bool) -> usize
 }
 
 // One write applied to a state: 1 if it made a difference, else 0.
-#[unsafe(no_mangle)]
-pub extern "C" fn pica_write(
+pub fn pica_write(
     cells: &mut [u32],
     fog: &mut [u32],
     light: &mut [u32],
@@ -207,8 +204,7 @@ pub extern "C" fn pica_write(
 }
 
 // The writes of a list, put into three buffers: how many there are.
-#[unsafe(no_mangle)]
-pub extern "C" fn pica_writes(
+pub fn pica_writes(
     list: &[u32],
     ids: &mut [u32],
     masks: &mut [u32],
@@ -226,8 +222,7 @@ pub extern "C" fn pica_writes(
 }
 
 // Writes packed into the shortest list: how many words of the space it takes.
-#[unsafe(no_mangle)]
-pub extern "C" fn pica_pack(ids: &[u32], masks: &[u32], values: &[u32], space: &mut [u32]) -> u64
+pub fn pica_pack(ids: &[u32], masks: &[u32], values: &[u32], space: &mut [u32]) -> u64
     ensures answer { result ≡ answer (pack_answer ids.now masks.now values.now (length space.old)) }
     ensures space { space.new ≡ pack_space ids.now masks.now values.now space.old }
 {
@@ -238,8 +233,7 @@ pub extern "C" fn pica_pack(ids: &[u32], masks: &[u32], values: &[u32], space: &
 }
 
 // The decoded state, one word a field: 0.
-#[unsafe(no_mangle)]
-pub extern "C" fn pica_decode(
+pub fn pica_decode(
     cells: &[u32],
     fog: &[u32],
     light: &[u32],
@@ -270,8 +264,7 @@ fn verdict_number(v: Verdict) -> usize
 }
 
 // What becomes of a fragment: the verdict's number, and what is then stored.
-#[unsafe(no_mangle)]
-pub extern "C" fn pica_fragment(
+pub fn pica_fragment(
     cells: &[u32],
     fog: &[u32],
     light: &[u32],

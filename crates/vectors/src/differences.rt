@@ -1,91 +1,98 @@
 // Did that write change anything? Request 2 of document 02.
+use std::io;
 use crate::{four, show};
 
 // "A single masked write should also say whether the cell, entry or index it touches differs afterwards"; 107 holds 1F71
-fn single_writes() {
+fn single_writes(rt: &HostRuntime) -> io::Result<()> {
     let held = [0x1F71, 0x000F0107, 0, 0];
-    show::written(b"another value", 0x107, 15, 0x1F71);
-    four::written_after(b"the value that is there", held, 0x107, 15, 0x1F71);
-    four::written_after(b"equal in the byte that is written", held, 0x107, 1, 0x71);
-    four::written_after(b"another in the byte that is written", held, 0x107, 2, 0x71);
+    show::written(rt, b"another value", 0x107, 15, 0x1F71)?;
+    four::written_after(rt, b"the value that is there", held, 0x107, 15, 0x1F71)?;
+    four::written_after(rt, b"equal in the byte that is written", held, 0x107, 1, 0x71)?;
+    four::written_after(rt, b"another in the byte that is written", held, 0x107, 2, 0x71)
 }
 
 // where no held bit becomes another
-fn beside_the_held() {
+fn beside_the_held(rt: &HostRuntime) -> io::Result<()> {
     let held = [0x1F71, 0x000F0107, 0, 0];
-    four::written_after(b"bytes without held bits", held, 0x107, 12, 0xFFFF0000);
-    four::written_after(b"bits beside the held ones", held, 0x107, 15, 0xFFFFFFFF);
-    four::written_after(b"mask 0", held, 0x107, 0, 0);
-    four::written_after(b"an id that isn't held", held, 0x11C, 15, 1);
+    four::written_after(rt, b"bytes without held bits", held, 0x107, 12, 0xFFFF0000)?;
+    four::written_after(rt, b"bits beside the held ones", held, 0x107, 15, 0xFFFFFFFF)?;
+    four::written_after(rt, b"mask 0", held, 0x107, 0, 0)?;
+    four::written_after(rt, b"an id that isn't held", held, 0x11C, 15, 1)
 }
 
-fn indices() {
+fn indices(rt: &HostRuntime) -> io::Result<()> {
     four::written_after(
+        rt,
         b"an index with its own value",
         [5, 0x000F00E6, 0, 0],
         0xE6,
         15,
         5,
-    );
-    four::written_after(b"an index with another", [5, 0x000F00E6, 0, 0], 0xE6, 15, 6);
-    show::written(b"refused", 0x23C, 15, 0);
+    )?;
+    four::written_after(rt, b"an index with another", [5, 0x000F00E6, 0, 0], 0xE6, 15, 6)?;
+    show::written(rt, b"refused", 0x23C, 15, 0)
 }
 
 // "A port data write counts, since its index always moves"
-fn ports() {
-    show::written(b"fog data that its entry holds", 0xE8, 15, 0);
-    show::written(b"light data that its entry holds", 0x1C8, 15, 0);
+fn ports(rt: &HostRuntime) -> io::Result<()> {
+    show::written(rt, b"fog data that its entry holds", 0xE8, 15, 0)?;
+    show::written(rt, b"light data that its entry holds", 0x1C8, 15, 0)?;
     four::written_after(
+        rt,
         b"an unnamed table's data",
         [0x200, 0x000F01C5, 0, 0],
         0x1C8,
         15,
         0,
-    );
+    )
 }
 
 // "That second number is the count over the expansion, each write judged on the state left by those before it"
-fn lists() {
+fn lists(rt: &HostRuntime) -> io::Result<()> {
     four::counts(
+        rt,
         b"11C to 11E",
         [0xAAAAAAAA, 0x802F011C, 0xBBBBBBBB, 0xCCCCCCCC],
-    );
-    four::counts(b"41 to 43", [1, 0x802F0041, 2, 3]);
+    )?;
+    four::counts(rt, b"41 to 43", [1, 0x802F0041, 2, 3])?;
     four::counts_after(
+        rt,
         b"41 to 43 once more",
         [1, 0x802F0041, 2, 3],
         [1, 0x802F0041, 2, 3],
-    );
+    )
 }
 
 // to one id
-fn values() {
-    four::counts(b"one value twice", [5, 0x001F0041, 5, 0]);
+fn values(rt: &HostRuntime) -> io::Result<()> {
+    four::counts(rt, b"one value twice", [5, 0x001F0041, 5, 0])?;
     four::counts_after(
+        rt,
         b"there and back",
         [5, 0x000F0041, 0, 0],
         [5, 0x002F0041, 6, 5],
-    );
+    )?;
     show::counts(
+        rt,
         b"five values, the third and the last as before",
         &[1, 0x004F0041, 2, 2, 1, 1, 0, 0],
-    );
-    four::counts(b"a table's data, twice the same", [0, 0x001F00E8, 0, 0]);
-    show::counts(b"no write", &[]);
+    )?;
+    four::counts(rt, b"a table's data, twice the same", [0, 0x001F00E8, 0, 0])?;
+    show::counts(rt, b"no write", &[])
 }
 
 // "A refused list gives neither count"
-fn refusals() {
-    four::counts(b"a jump at the end", [1, 0x000F0041, 0, 0x000F023C]);
+fn refusals(rt: &HostRuntime) -> io::Result<()> {
+    four::counts(rt, b"a jump at the end", [1, 0x000F0041, 0, 0x000F023C])
 }
 
-pub(crate) fn all() {
-    show::group(b"differences");
-    single_writes();
-    beside_the_held();
-    indices();
-    ports();
-    lists();
-    values();
-    refusals();
+pub(crate) fn all(rt: &HostRuntime) -> io::Result<()> {
+    show::group(rt, b"differences")?;
+    single_writes(rt)?;
+    beside_the_held(rt)?;
+    indices(rt)?;
+    ports(rt)?;
+    lists(rt)?;
+    values(rt)?;
+    refusals(rt)
 }

@@ -1,5 +1,7 @@
 // The documents' examples about lists and about packing, run. The file `stdout` beside src/ was written from the documents,
 // and the check compares.
+#![tactic(auto)]
+
 mod commands;
 mod cuttings;
 mod differences;
@@ -11,13 +13,15 @@ mod refusals;
 mod show;
 mod sixteen;
 
-fn main() {
-    commands::all();
-    masks::all();
-    ports::all();
-    refusals::all();
-    packing::all();
-    cuttings::all();
-    differences::all();
-    sixteen::all();
+use std::io;
+
+fn main(rt: HostRuntime) -> io::Result<()> {
+    commands::all(&rt)?;
+    masks::all(&rt)?;
+    ports::all(&rt)?;
+    refusals::all(&rt)?;
+    packing::all(&rt)?;
+    cuttings::all(&rt)?;
+    differences::all(&rt)?;
+    sixteen::all(&rt)?;
 }

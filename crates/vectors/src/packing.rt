@@ -1,46 +1,47 @@
 // Packing: document 01, "Packing", its examples, and lengths around a command's 256 writes; request 3 of document 02, which fills lists
 // and drops writes with mask 0.
+use std::io;
 use crate::show;
 use packer::Packed;
 
 // The answer, as `label, n writes: N words` or with its refusal.
-fn put_packed(label: &[u8], n: usize, answer: Packed) {
+fn put_packed(rt: &HostRuntime, label: &[u8], n: usize, answer: Packed) -> io::Result<()> {
     match answer {
-        Packed::Words(words) => show::words_of(label, n, words),
-        Packed::Refused(why) => show::refusal_of(label, n, why),
+        Packed::Words(words) => show::words_of(rt, label, n, words)?,
+        Packed::Refused(why) => show::refusal_of(rt, label, n, why)?,
     }
+    Ok(())
 }
 
 // The first n writes, packed into `room` words of the space.
-fn pack_first(
-    label: &[u8],
+fn pack_first(rt: &HostRuntime, label: &[u8],
     n: usize,
     room: usize,
     ids: &[u32],
     masks: &[u32],
     values: &[u32],
-    space: &mut [u32],
-) {
+    space: &mut [u32],) -> io::Result<()> {
     if ids.len() < n {
-        return;
+        return Ok(());
     }
     if masks.len() < n {
-        return;
+        return Ok(());
     }
     if values.len() < n {
-        return;
+        return Ok(());
     }
     if space.len() < room {
-        return;
+        return Ok(());
     }
     let answer = packer::pack(&ids[0..n], &masks[0..n], &values[0..n], &mut space[0..room]);
-    put_packed(label, n, answer);
+    put_packed(rt, label, n, answer)
 }
 
 // n writes to 41, with room for `room` words. 01: "256 equal ids: 258 words; 257: 260"; 02: "258 becomes 260".
-fn equal_ids(n: usize, room: usize) {
+fn equal_ids(rt: &HostRuntime, n: usize, room: usize) -> io::Result<()> {
     let mut space = [0u32; 1200];
     pack_first(
+        rt,
         b"equal ids",
         n,
         room,
@@ -48,7 +49,7 @@ fn equal_ids(n: usize, room: usize) {
         &[15u32; 600],
         &[7u32; 600],
         &mut space,
-    );
+    )
 }
 
 // 0, 1, 2, ..
@@ -63,9 +64,10 @@ fn rising() -> [u32; 600] {
 }
 
 // n writes to rising ids, the first 0, ports among them.
-fn rising_ids(n: usize) {
+fn rising_ids(rt: &HostRuntime, n: usize) -> io::Result<()> {
     let mut space = [0u32; 1200];
     pack_first(
+        rt,
         b"rising ids",
         n,
         1200,
@@ -73,135 +75,142 @@ fn rising_ids(n: usize) {
         &[15u32; 600],
         &[7u32; 600],
         &mut space,
-    );
+    )
 }
 
 // Packs writes, and shows the words that were put.
-fn pack_shown(label: &[u8], ids: &[u32], masks: &[u32], values: &[u32], space: &mut [u32]) {
+fn pack_shown(rt: &HostRuntime, label: &[u8], ids: &[u32], masks: &[u32], values: &[u32], space: &mut [u32]) -> io::Result<()> {
     let answer = packer::pack(ids, masks, values, space);
-    put_packed(label, ids.len(), answer);
+    put_packed(rt, label, ids.len(), answer)?;
     let Packed::Words(words) = answer else {
-        return;
+        return Ok(());
     };
     if words == 0 {
-        return;
+        return Ok(());
     }
     if words <= space.len() {
-        show::list_words(&space[0..words]);
+        show::list_words(rt, &space[0..words])?;
     }
+    Ok(())
 }
 
 // A few writes of the values 1, 2, 3, ..
-fn masked(label: &[u8], ids: &[u32], masks: &[u32]) {
+fn masked(rt: &HostRuntime, label: &[u8], ids: &[u32], masks: &[u32]) -> io::Result<()> {
     let mut space = [0u32; 16];
     let values: &[u32] = &[1, 2, 3, 4, 5];
     let n = ids.len();
     if n <= values.len() {
-        pack_shown(label, ids, masks, &values[0..n], &mut space);
+        pack_shown(rt, label, ids, masks, &values[0..n], &mut space)?;
     }
+    Ok(())
 }
 
 // Two of them.
-fn pair(label: &[u8], ids: [u32; 2], masks: [u32; 2]) {
-    masked(label, &ids, &masks);
+fn pair(rt: &HostRuntime, label: &[u8], ids: [u32; 2], masks: [u32; 2]) -> io::Result<()> {
+    masked(rt, label, &ids, &masks)
 }
 
 // All with the mask 15.
-fn run(label: &[u8], ids: &[u32]) {
+fn run(rt: &HostRuntime, label: &[u8], ids: &[u32]) -> io::Result<()> {
     let masks: &[u32] = &[15u32; 8];
     let n = ids.len();
     if n <= masks.len() {
-        masked(label, ids, &masks[0..n]);
+        masked(rt, label, ids, &masks[0..n])?;
     }
+    Ok(())
 }
 
 // Writes with the mask 15, and values of their own.
-fn valued(label: &[u8], ids: &[u32], values: &[u32]) {
+fn valued(rt: &HostRuntime, label: &[u8], ids: &[u32], values: &[u32]) -> io::Result<()> {
     let mut space = [0u32; 16];
     let masks: &[u32] = &[15u32; 8];
     let n = ids.len();
     if n <= masks.len() {
-        pack_shown(label, ids, &masks[0..n], values, &mut space);
+        pack_shown(rt, label, ids, &masks[0..n], values, &mut space)?;
     }
+    Ok(())
 }
 
-fn runs() {
+fn runs(rt: &HostRuntime) -> io::Result<()> {
     // 01's two examples, and "Taking the longest run first: 8 words where 6 do"; 02: "The six-word examples gain the pair `0 0`"
-    run(b"41 41 42 43", &[0x41, 0x41, 0x42, 0x43]);
-    run(b"41 41 42", &[0x41, 0x41, 0x42]);
-    run(b"41 42 43 43 43", &[0x41, 0x42, 0x43, 0x43, 0x43]);
+    run(rt, b"41 41 42 43", &[0x41, 0x41, 0x42, 0x43])?;
+    run(rt, b"41 41 42", &[0x41, 0x41, 0x42])?;
+    run(rt, b"41 42 43 43 43", &[0x41, 0x42, 0x43, 0x43, 0x43])
 }
 
-fn short_runs() {
-    run(b"no write", &[0; 0]);
-    valued(b"a lone write", &[0x107], &[0x1F71]);
+fn short_runs(rt: &HostRuntime) -> io::Result<()> {
+    run(rt, b"no write", &[0; 0])?;
+    valued(rt, b"a lone write", &[0x107], &[0x1F71])?;
     // refused: 3 at its index, and lengths that differ
-    run(b"41 300", &[0x41, 0x300]);
-    valued(b"two ids, one value", &[0x41, 0x42], &[1]);
+    run(rt, b"41 300", &[0x41, 0x300])?;
+    valued(rt, b"two ids, one value", &[0x41, 0x42], &[1])
 }
 
 // 02: "Writes with mask 0 are still checked, but no longer belong to an expansion: the packer drops them"
-fn dropped() {
+fn dropped(rt: &HostRuntime) -> io::Result<()> {
     masked(
+        rt,
         b"41, then 99 with mask 0, then 42",
         &[0x41, 0x99, 0x42],
         &[15, 0, 15],
-    );
+    )?;
     masked(
+        rt,
         b"99 with mask 0 before 41, between and after",
         &[0x99, 0x41, 0x99, 0x41, 0x99],
         &[0, 15, 0, 15, 0],
-    );
+    )?;
     masked(
+        rt,
         b"41, 42 and 43, 42 with mask 0",
         &[0x41, 0x42, 0x43],
         &[15, 0, 15],
-    );
-    pair(b"mask 0 alone", [0x41, 0x42], [0, 0]);
+    )?;
+    pair(rt, b"mask 0 alone", [0x41, 0x42], [0, 0])
 }
 
 // "still checked", and "the index in a packer's refusal .. still count every write given"
-fn still_checked() {
-    pair(b"mask 0, and then 300", [0x41, 0x300], [0, 15]);
-    pair(b"300 with mask 0", [0x41, 0x300], [15, 0]);
-    pair(b"23C with mask 0", [0x41, 0x23C], [15, 0]);
-    pair(b"port data with mask 0", [0x41, 0xE8], [15, 0]);
+fn still_checked(rt: &HostRuntime) -> io::Result<()> {
+    pair(rt, b"mask 0, and then 300", [0x41, 0x300], [0, 15])?;
+    pair(rt, b"300 with mask 0", [0x41, 0x300], [15, 0])?;
+    pair(rt, b"23C with mask 0", [0x41, 0x23C], [15, 0])?;
+    pair(rt, b"port data with mask 0", [0x41, 0xE8], [15, 0])
 }
 
-fn equal_lengths() {
-    equal_ids(1, 1200);
-    equal_ids(254, 1200);
-    equal_ids(255, 1200);
-    equal_ids(256, 1200);
-    equal_ids(257, 1200);
-    equal_ids(258, 1200);
-    equal_ids(509, 1200);
-    equal_ids(510, 1200);
-    equal_ids(511, 1200);
-    equal_ids(512, 1200);
-    equal_ids(513, 1200);
+fn equal_lengths(rt: &HostRuntime) -> io::Result<()> {
+    equal_ids(rt, 1, 1200)?;
+    equal_ids(rt, 254, 1200)?;
+    equal_ids(rt, 255, 1200)?;
+    equal_ids(rt, 256, 1200)?;
+    equal_ids(rt, 257, 1200)?;
+    equal_ids(rt, 258, 1200)?;
+    equal_ids(rt, 509, 1200)?;
+    equal_ids(rt, 510, 1200)?;
+    equal_ids(rt, 511, 1200)?;
+    equal_ids(rt, 512, 1200)?;
+    equal_ids(rt, 513, 1200)?;
     // room for all but one word, and just enough
-    equal_ids(256, 259);
-    equal_ids(256, 260);
+    equal_ids(rt, 256, 259)?;
+    equal_ids(rt, 256, 260)
 }
 
-fn rising_lengths() {
-    rising_ids(255);
-    rising_ids(256);
-    rising_ids(257);
-    rising_ids(258);
-    rising_ids(510);
-    rising_ids(511);
-    rising_ids(512);
-    rising_ids(513);
+fn rising_lengths(rt: &HostRuntime) -> io::Result<()> {
+    rising_ids(rt, 255)?;
+    rising_ids(rt, 256)?;
+    rising_ids(rt, 257)?;
+    rising_ids(rt, 258)?;
+    rising_ids(rt, 510)?;
+    rising_ids(rt, 511)?;
+    rising_ids(rt, 512)?;
+    rising_ids(rt, 513)
 }
 
-pub(crate) fn all() {
-    show::group(b"packing");
-    runs();
-    short_runs();
-    dropped();
-    still_checked();
-    equal_lengths();
-    rising_lengths();
+pub(crate) fn all(rt: &HostRuntime) -> io::Result<()> {
+    show::group(rt, b"packing")?;
+    runs(rt)?;
+    short_runs(rt)?;
+    dropped(rt)?;
+    still_checked(rt)?;
+    equal_lengths(rt)?;
+    rising_lengths(rt)
 }

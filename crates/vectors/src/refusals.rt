@@ -1,56 +1,61 @@
 // Refused lists: document 01, "Numbers given back", with the jump registers of document 004.
+use std::io;
 use crate::{four, show};
 
 // 01: "id above 2FFh".
-fn ids() {
-    four::judged(b"2fe, one extra", [1, 0x801F02FE, 2, 0]);
+fn ids(rt: &HostRuntime) -> io::Result<()> {
+    four::judged(rt, b"2fe, one extra", [1, 0x801F02FE, 2, 0])?;
     // 01, "Easy errors here": "Letting id 2FFh step to 000h"
-    four::judged(b"2fe, two extra", [1, 0x802F02FE, 2, 3]);
-    four::judged(b"2ff, two extra, one id", [1, 0x002F02FF, 2, 3]);
-    four::judged(b"300", [1, 0x000F0300, 0, 0]);
-    four::judged(b"ffff", [1, 0x000FFFFF, 0, 0]);
+    four::judged(rt, b"2fe, two extra", [1, 0x802F02FE, 2, 3])?;
+    four::judged(rt, b"2ff, two extra, one id", [1, 0x002F02FF, 2, 3])?;
+    four::judged(rt, b"300", [1, 0x000F0300, 0, 0])?;
+    four::judged(rt, b"ffff", [1, 0x000FFFFF, 0, 0])
 }
 
 // 01: "id 23Ch or 23Dh"; 004, "GPUREG_CMDBUF_JUMP0": "This register triggers a jump to the first command buffer."
-fn jumps() {
+fn jumps(rt: &HostRuntime) -> io::Result<()> {
     // sizes and addresses of both buffers are set up, and then the first is jumped to
     show::judged(
+        rt,
         b"238 to 23b",
         &[4, 0x803F0238, 4, 0x300000, 0x300004, 0, 0, 0],
-    );
+    )?;
     show::judged(
+        rt,
         b"238 to 23c",
         &[4, 0x804F0238, 4, 0x300000, 0x300004, 1, 0, 0],
-    );
-    four::judged(b"23b, one extra", [1, 0x801F023B, 2, 0]);
-    four::judged(b"23c", [1, 0x000F023C, 0, 0]);
-    four::judged(b"23d", [1, 0x000F023D, 0, 0]);
-    four::judged(b"23e", [1, 0x000F023E, 0, 0]);
+    )?;
+    four::judged(rt, b"23b, one extra", [1, 0x801F023B, 2, 0])?;
+    four::judged(rt, b"23c", [1, 0x000F023C, 0, 0])?;
+    four::judged(rt, b"23d", [1, 0x000F023D, 0, 0])?;
+    four::judged(rt, b"23e", [1, 0x000F023E, 0, 0])
 }
 
 // 01: "Reading: 6, 1, then commands in order, each 2 first and then its writes; the first write at fault ends the reading,
 // however deep in its command, with the command's first word as place."
-fn order() {
+fn order(rt: &HostRuntime) -> io::Result<()> {
     show::judged(
+        rt,
         b"the second command",
         &[1, 0x001F0041, 2, 0, 3, 0x000F0300, 0, 0],
-    );
-    four::judged(b"words before writes", [1, 0x003F0300, 2, 3]);
+    )?;
+    four::judged(rt, b"words before writes", [1, 0x003F0300, 2, 3])?;
     four::judged(
+        rt,
         b"a fault before missing words",
         [1, 0x000F0300, 2, 0x001F0041],
-    );
+    )?;
     // port data 1C8 is the ninth write, and the jump register far behind it
     let mut list = [0u32; 204];
     list[1] = 0x8C8301C0;
-    show::judged(b"the first fault of many", &list);
+    show::judged(rt, b"the first fault of many", &list)?;
     // 01, "Easy errors here": "Applying writes while still looking for refusals"
-    four::cell_after(b"nothing is applied", [1, 0x000F0041, 2, 0x000F023C], 0x41);
+    four::cell_after(rt, b"nothing is applied", [1, 0x000F0041, 2, 0x000F023C], 0x41)
 }
 
-pub(crate) fn all() {
-    show::group(b"refusals");
-    ids();
-    jumps();
-    order();
+pub(crate) fn all(rt: &HostRuntime) -> io::Result<()> {
+    show::group(rt, b"refusals")?;
+    ids(rt)?;
+    jumps(rt)?;
+    order(rt)
 }

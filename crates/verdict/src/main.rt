@@ -1,9 +1,12 @@
 // Reads a list as little-endian words from standard input, and prints the verdict on it: `ok N`, `refused R at P`, or
 // `input` for what is no list.
+#![tactic(auto)]
+
 ghost use Rattle.std.specs.Prelude.{length};
 ghost use Rattle.verdict.specs.Inputs.{Within};
 
-use libc::{STDIN_FILENO, STDOUT_FILENO};
+use std::io;
+use std::io::{Read, Write};
 
 // What came from standard input: so many bytes, or a read that failed.
 #[derive(Clone, Copy)]
@@ -13,16 +16,15 @@ enum Input {
 }
 
 // Reads until the input ends or the space is full. A pipe hands its bytes over in pieces, so a short read is no end.
-fn read_all(bytes: &mut [u8]) -> Input
+fn read_all(rt: &HostRuntime, bytes: &mut [u8]) -> Input
     ensures { Within result (length bytes.old) }
 {
+    let mut input = rt.stdin();
     let mut n: usize = 0;
     while n < bytes.len() {
-        let got = libc::read(STDIN_FILENO, &mut bytes[n..]);
-        if got < 0 {
+        let Ok(more) = input.read(&mut bytes[n..]) else {
             return Input::Failed;
-        }
-        let more = io::count(got, &bytes[n..]);
+        };
         if more == 0 {
             return Input::Bytes(n);
         }
@@ -32,13 +34,12 @@ fn read_all(bytes: &mut [u8]) -> Input
 }
 
 // The space is a byte longer than the longest list, so that longer input shows.
-fn main() {
+fn main(rt: HostRuntime) -> io::Result<()> {
     let mut bytes = [0u8; 65537];
-    let Input::Bytes(n) = read_all(&mut bytes) else {
-        io::write_all(STDOUT_FILENO, b"input\n");
-        return;
+    let Input::Bytes(n) = read_all(&rt, &mut bytes) else {
+        return io::writer(&rt).write_all(b"input\n");
     };
     let mut line = [0u8; 64];
     let k = lines::line_of(&bytes[..n], &mut line);
-    io::write_all(STDOUT_FILENO, &line[..k]);
+    io::writer(&rt).write_all(&line[..k])
 }
