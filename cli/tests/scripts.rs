@@ -43,7 +43,7 @@ fn program(folder: &Folder, name: &str, lines: &str) {
 }
 
 const TOOLS: &str =
-    "bash cat chmod dirname env find flock head mkdir mktemp mv readlink rm tail tee touch uname wc";
+    "bash cat chmod cp dirname env find flock head mkdir mktemp mv readlink rm tail tee touch uname wc";
 
 /// Links to the tools that scripts need, so that neither `rt` nor `cargo` is on the path but those of the test.
 fn link_tools(folder: &Folder) {
