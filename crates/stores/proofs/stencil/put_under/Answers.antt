@@ -2,12 +2,10 @@
 use Prim.Native.Nat.{◌-◌}
 use lib.Bits.{bit_and, or_lt, and_le_l, and_le_r}
 use native.Mathlib.Omega.{arith}
-use borrow.Author.Rules.{rules}
-use Rattle.stores.proofs.stencil.put_under.Statement.{statement}
-use Rattle.stores.proofs.stencil.put_under.Tie as tie
+use Rattle.stores.proofs.stencil.put_under.Goals as goal
 
-cast-result : tie.Need-overflow-cast-result
-cast-result c =
+pub overflow_cast-result-3 : goal.overflow_cast-result-3
+overflow_cast-result-3 c =
     let a = c.args in
     record {
       fits =
@@ -15,9 +13,3 @@ cast-result c =
           (omega (arith, and_le_l a.stored (0xFFFFFFFF - a.mask)))
           (omega (arith, and_le_r a.new a.mask));
     }
-
-returns : tie.Need-returns
-returns c = search rules
-
-pub put-under-spec : {M : Type 1} → statement M
-put-under-spec = tie.close (tie.spec cast-result returns)
