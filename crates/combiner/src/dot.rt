@@ -3,7 +3,7 @@ ghost use Rattle.std.specs.Prelude.{◌≡◌, ◌≤◌, nat_abs, ◌*ℤ◌};
 ghost use Rattle.combiner.specs.Dot.{centred, at_least_zero, clamped, dot3_of};
 ghost use Rattle.combiner.specs.Words.{dot_in};
 
-use crate::{modes, words};
+use crate::{modes, packed};
 
 #[derive(Clone, Copy)]
 pub struct Rgb {
@@ -49,5 +49,5 @@ fn dot3(a: Rgb, b: Rgb) -> u8
 pub fn dot_words(a: u32, b: u32) -> u8
     ensures { result ≡ dot_in a b }
 {
-    dot3(words::rgb_of(a), words::rgb_of(b))
+    dot3(packed::rgb_of(a), packed::rgb_of(b))
 }

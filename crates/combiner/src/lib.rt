@@ -2,6 +2,8 @@
 // the result of specs/Chain.antt, by the registers of the cells. Nothing is decoded first: each register is read where it is used. The
 // sixteen colours that a source code can name are kept as words in one array, in which a stage changes at most three; specs/Words.antt says
 // how words and array stand for the document's colours.
+#![tactic(auto)]
+
 ghost use Rattle.std.specs.Prelude.{◌≡◌, ◌<◌, length, get_or};
 ghost use Rattle.settings.specs.Ranges.{in_cells};
 ghost use Rattle.settings.specs.Stages.{stage_in};
@@ -17,8 +19,8 @@ mod dot;
 mod mix;
 mod modes;
 mod operands;
+mod packed;
 mod stage;
-mod words;
 
 // The colours that are given with a fragment.
 #[derive(Clone, Copy)]
@@ -36,9 +38,9 @@ pub struct Given {
 fn buffer_after(rgb: u32, alpha: u32, previous: u32, buffer: u32) -> u32
     ensures { colour_of result ≡ buffer_after rgb alpha (record { previous = colour_of previous; buffer = colour_of buffer }) }
 {
-    words::join_alpha(
-        words::choose(rgb == 1, previous, buffer),
-        words::choose(alpha == 1, previous, buffer),
+    packed::join_alpha(
+        packed::choose(rgb == 1, previous, buffer),
+        packed::choose(alpha == 1, previous, buffer),
     )
 }
 

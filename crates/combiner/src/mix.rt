@@ -6,14 +6,14 @@ ghost use Rattle.combiner.specs.Operands.{rgb_operand};
 ghost use Rattle.settings.specs.Colours.{colour_of};
 ghost use Rattle.combiner.specs.Words.{rgb, rgb_in, dot_in, each2, each3, rgb_combined, rgb_scaled};
 
-use crate::{dot, modes, operands, words};
+use crate::{dot, modes, operands, packed};
 
 fn modulate_rgb(x: u32, y: u32) -> u32
     ensures { rgb_in result ≡ each2 modulated (rgb_in x) (rgb_in y) }
 {
-    let a = words::rgb_of(x);
-    let b = words::rgb_of(y);
-    words::join_rgb(
+    let a = packed::rgb_of(x);
+    let b = packed::rgb_of(y);
+    packed::join_rgb(
         modes::modulate(a.red, b.red),
         modes::modulate(a.green, b.green),
         modes::modulate(a.blue, b.blue),
@@ -23,9 +23,9 @@ fn modulate_rgb(x: u32, y: u32) -> u32
 fn add_rgb(x: u32, y: u32) -> u32
     ensures { rgb_in result ≡ each2 added (rgb_in x) (rgb_in y) }
 {
-    let a = words::rgb_of(x);
-    let b = words::rgb_of(y);
-    words::join_rgb(
+    let a = packed::rgb_of(x);
+    let b = packed::rgb_of(y);
+    packed::join_rgb(
         modes::add(a.red, b.red),
         modes::add(a.green, b.green),
         modes::add(a.blue, b.blue),
@@ -35,9 +35,9 @@ fn add_rgb(x: u32, y: u32) -> u32
 fn add_signed_rgb(x: u32, y: u32) -> u32
     ensures { rgb_in result ≡ each2 added_signed (rgb_in x) (rgb_in y) }
 {
-    let a = words::rgb_of(x);
-    let b = words::rgb_of(y);
-    words::join_rgb(
+    let a = packed::rgb_of(x);
+    let b = packed::rgb_of(y);
+    packed::join_rgb(
         modes::add_signed(a.red, b.red),
         modes::add_signed(a.green, b.green),
         modes::add_signed(a.blue, b.blue),
@@ -47,10 +47,10 @@ fn add_signed_rgb(x: u32, y: u32) -> u32
 fn interpolate_rgb(x: u32, y: u32, z: u32) -> u32
     ensures { rgb_in result ≡ each3 interpolated (rgb_in x) (rgb_in y) (rgb_in z) }
 {
-    let a = words::rgb_of(x);
-    let b = words::rgb_of(y);
-    let c = words::rgb_of(z);
-    words::join_rgb(
+    let a = packed::rgb_of(x);
+    let b = packed::rgb_of(y);
+    let c = packed::rgb_of(z);
+    packed::join_rgb(
         modes::interpolate(a.red, b.red, c.red),
         modes::interpolate(a.green, b.green, c.green),
         modes::interpolate(a.blue, b.blue, c.blue),
@@ -60,9 +60,9 @@ fn interpolate_rgb(x: u32, y: u32, z: u32) -> u32
 fn subtract_rgb(x: u32, y: u32) -> u32
     ensures { rgb_in result ≡ each2 subtracted (rgb_in x) (rgb_in y) }
 {
-    let a = words::rgb_of(x);
-    let b = words::rgb_of(y);
-    words::join_rgb(
+    let a = packed::rgb_of(x);
+    let b = packed::rgb_of(y);
+    packed::join_rgb(
         modes::subtract(a.red, b.red),
         modes::subtract(a.green, b.green),
         modes::subtract(a.blue, b.blue),
@@ -72,10 +72,10 @@ fn subtract_rgb(x: u32, y: u32) -> u32
 fn multiply_add_rgb(x: u32, y: u32, z: u32) -> u32
     ensures { rgb_in result ≡ each3 multiplied_added (rgb_in x) (rgb_in y) (rgb_in z) }
 {
-    let a = words::rgb_of(x);
-    let b = words::rgb_of(y);
-    let c = words::rgb_of(z);
-    words::join_rgb(
+    let a = packed::rgb_of(x);
+    let b = packed::rgb_of(y);
+    let c = packed::rgb_of(z);
+    packed::join_rgb(
         modes::multiply_add(a.red, b.red, c.red),
         modes::multiply_add(a.green, b.green, c.green),
         modes::multiply_add(a.blue, b.blue, c.blue),
@@ -85,10 +85,10 @@ fn multiply_add_rgb(x: u32, y: u32, z: u32) -> u32
 fn add_multiply_rgb(x: u32, y: u32, z: u32) -> u32
     ensures { rgb_in result ≡ each3 added_multiplied (rgb_in x) (rgb_in y) (rgb_in z) }
 {
-    let a = words::rgb_of(x);
-    let b = words::rgb_of(y);
-    let c = words::rgb_of(z);
-    words::join_rgb(
+    let a = packed::rgb_of(x);
+    let b = packed::rgb_of(y);
+    let c = packed::rgb_of(z);
+    packed::join_rgb(
         modes::add_multiply(a.red, b.red, c.red),
         modes::add_multiply(a.green, b.green, c.green),
         modes::add_multiply(a.blue, b.blue, c.blue),
@@ -98,7 +98,7 @@ fn add_multiply_rgb(x: u32, y: u32, z: u32) -> u32
 fn dot_rgb(x: u32, y: u32) -> u32
     ensures { rgb_in result ≡ rgb (dot_in x y) (dot_in x y) (dot_in x y) }
 {
-    words::grey(dot::dot_words(x, y))
+    packed::grey(dot::dot_words(x, y))
 }
 
 // One choice by the mode for all three channels. x and y are the first two operands; the third, which its code names of a source, and the
@@ -128,8 +128,8 @@ pub fn scale_rgb(scale: u32, x: u32) -> u32
         return x % 0x1000000;
     }
     let by = modes::factor(scale);
-    let a = words::rgb_of(x);
-    words::join_rgb(
+    let a = packed::rgb_of(x);
+    packed::join_rgb(
         modes::times(a.red, by),
         modes::times(a.green, by),
         modes::times(a.blue, by),

@@ -4,7 +4,7 @@ ghost use Rattle.combiner.specs.Operands.{one_minus, rgb_part, rgb_operand, alph
 ghost use Rattle.settings.specs.Colours.{colour_of};
 ghost use Rattle.combiner.specs.Words.{rgb_in, rgb_parts, rgb_one_minus};
 
-use crate::words;
+use crate::packed;
 
 // The byte of a source that an RGB operand's code names, by a shift: the number has for each half code from 0 up the bit at which the
 // byte begins, 24 for alpha, 0, 8, 16 for red, green, blue, and 32, past the word, where the code names none.
@@ -22,7 +22,7 @@ fn rgb_part(code: u32, x: u32) -> u32
     if code / 2 % 8 == 0 {
         x
     } else {
-        words::grey(byte_part(code, x))
+        packed::grey(byte_part(code, x))
     }
 }
 

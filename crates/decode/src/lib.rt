@@ -1,4 +1,6 @@
 // The decoded state of the 66 held registers: their settings, or a refusal. The contracts cite specs/Decoded.antt.
+#![tactic(auto)]
+
 ghost use Rattle.std.specs.Prelude.{◌≡◌, length};
 ghost use Rattle.registers.specs.State.{st};
 ghost use Rattle.settings.specs.Ranges.{in_cells};

@@ -1,4 +1,6 @@
 // The decoded state laid out as 204 words, one a field, in the order of the field table. The contracts cite settings' specs/Flat.antt.
+#![tactic(auto)]
+
 ghost use Rattle.std.specs.Prelude.{◌≡◌, ◌++◌, ◌+◌, ◌≤◌, length, take};
 ghost use Rattle.settings.specs.Fields.{twos};
 ghost use Rattle.settings.specs.Flat.{rasteriser_words, stage_words, fog_words, colour_words, blending_words, tests_words, buffers_words};

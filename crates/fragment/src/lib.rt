@@ -1,5 +1,7 @@
 // One fragment: the combiner's result, the tests, and what is stored. The contracts cite specs/Drawn.antt. No settings are read for it:
 // once every code has a name, each function below takes from the cells the registers that it uses.
+#![tactic(auto)]
+
 ghost use Rattle.std.specs.Prelude.{◌≡◌, length};
 ghost use Rattle.registers.specs.State.{st};
 ghost use Rattle.settings.specs.Ranges.{bits, in_cells};

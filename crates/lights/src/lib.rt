@@ -1,4 +1,6 @@
 // The eight lights: the fields of one as a record, and how they are read from the cells. The contracts cite specs/Lights.antt.
+#![tactic(auto)]
+
 ghost use Rattle.std.specs.Prelude.{◌≡◌, ◌<◌, length};
 ghost use Rattle.numbers.specs.Ranges.{in_cells, negated};
 ghost use Rattle.lights.specs.Lights.{light_colour_in, vector_in, spot_in, config_in, attenuation_in, light_in, lights_in};

@@ -1,5 +1,7 @@
 // The settings: the fields of the 66 held registers as nested records, 204 in all, and how they are read from the cells. The contract of
 // `read_settings` cites specs/Settings.antt.
+#![tactic(auto)]
+
 ghost use Rattle.std.specs.Prelude.{◌≡◌, length};
 ghost use Rattle.settings.specs.Ranges.{bits, in_cells};
 ghost use Rattle.settings.specs.Settings.{light_port_in, settings_in};

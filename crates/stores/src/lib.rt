@@ -1,4 +1,6 @@
 // The verdict of the three tests on one fragment, and what it stores. The contracts cite specs/Stores.antt, by the registers of the cells.
+#![tactic(auto)]
+
 ghost use Rattle.std.specs.Prelude.{◌≡◌, length};
 ghost use Rattle.settings.specs.Ranges.{in_cells};
 ghost use Rattle.settings.specs.Framebuffer.{framebuffer_in};

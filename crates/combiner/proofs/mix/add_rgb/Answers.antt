@@ -1,0 +1,14 @@
+-- Channel by channel, as the calls ensure. Assumes nothing.
+use mathlib.Core.Path.{◌∙◌}
+use Rattle.combiner.proofs.mix.add_rgb.Goals as goal
+
+pub returns : goal.returns
+returns c =
+    c.join_rgb.ensures.0 ∙
+    rw (
+      c.add-3.ensures,
+      c.add-2.ensures,
+      c.add.ensures,
+      c.rgb_of-b.ensures,
+      c.rgb_of-a.ensures,
+    )
