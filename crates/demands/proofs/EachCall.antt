@@ -10,7 +10,7 @@ use lib.Dec.{eqb, ltb}
 use borrow.Author.Tests.{lt-ltb, le-ltb}
 use Rattle.numbers.specs.Pick.{pick}
 use Rattle.numbers.specs.Answer.{Answer, answered, refused, both, neither, besides}
-use Rattle.numbers.proofs.Answers.{told-apart}
+use Rattle.numbers.proofs.Answers.{told_apart}
 use Rattle.registers.specs.State.{State, sized}
 use Rattle.reader.specs.Read.{told_both}
 use Rattle.registers.specs.Applied.{apply_all}
@@ -56,11 +56,11 @@ closing_writes p n = go (ltb 65536 p.come) (eqb (p.come % 4) 0) (between p) (eqb
         (pick m (pick b (pick f (answered p.writes) (refused (fault_number p.fault) p.place)) (refused 2 p.place)) (refused 15 0))
         ≡ answered n
         → n ≡ p.writes
-    go true m b f e = absurd (told-apart (sym e))
-    go false false b f e = absurd (told-apart (sym e))
-    go false true false f e = absurd (told-apart (sym e))
+    go true m b f e = absurd (told_apart (sym e))
+    go false false b f e = absurd (told_apart (sym e))
+    go false true false f e = absurd (told_apart (sym e))
     go false true true true e = cc
-    go false true true false e = absurd (told-apart (sym e))
+    go false true true false e = absurd (told_apart (sym e))
 
 -- "On acceptance the live state takes those of the spare", which keeps what it has; "on any other refusal the spare those of the live";
 -- "and the reader is as freshly opened". Writes and differences are those counted so far

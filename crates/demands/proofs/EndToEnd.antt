@@ -14,7 +14,7 @@ use borrow.Author.Tests.{ltb-false, eq-eqb}
 use Rattle.numbers.specs.Pick.{pick}
 use Rattle.numbers.specs.Answer.{answered, unless_fault, both}
 use Rattle.numbers.specs.Bits.{spread}
-use Rattle.numbers.proofs.Answers.{told-apart}
+use Rattle.numbers.proofs.Answers.{told_apart}
 use Rattle.words.specs.Writes.{Write, kept, fault_of, allowed}
 use Rattle.words.proofs.Laws.{allowed_fault}
 use Rattle.words.specs.Commands.{all_writes, expansion, legal, well_formed}
@@ -142,7 +142,7 @@ done_one a b e = let z = write-told-one (written.Done a) (written.Done b) e in c
 by_number : (n d : ℕ) (s t u : State) (b : Bool) → answered (pick b 1 0) ≡ unless_fault n 0 (answered d) → u ≡ unless n t s
     → (n ≡ 0) × (pick b 1 0 ≡ d) × (u ≡ t)
 by_number zero d s t u b e f = let z : pick b 1 0 ≡ d = cc in (refl, z, f)
-by_number (suc n) d s t u b e f = absurd (told-apart e)
+by_number (suc n) d s t u b e f = absurd (told_apart e)
 
 by_mask : (s : State) (w : Write) (a b : Bool) → sized s ≡ a → ltb 15 w.mask ≡ b → pick a (pick b 9 (fault_of w.id w.mask)) 6 ≡ 0
     → (sized s ≡ true) × (w.mask ≤ 15) × (allowed w.id w.mask ≡ true)

@@ -11,7 +11,7 @@ use lib.ListN.{get_or}
 use borrow.Author.Tests.{eq-eqb, ne_eqb}
 use Rattle.numbers.specs.Pick.{pick}
 use Rattle.numbers.specs.Answer.{Answer, answered, refused}
-use Rattle.numbers.proofs.Answers.{told-apart, number-one}
+use Rattle.numbers.proofs.Answers.{told_apart, number_one}
 use Rattle.words.specs.Writes.{Write}
 use Rattle.words.specs.declared.Refusal.{Refusal}
 use Rattle.registers.specs.State.{State, sized}
@@ -127,14 +127,14 @@ open_taken live spare = go (both_sized live spare)
     go false = refl
 
 above_zero : (k q : ℕ) → 0 < k → Numbered (refused k q)
-above_zero k q h n p e z = let m : k ≡ n = number-one e in omega arith
+above_zero k q h n p e z = let m : k ≡ n = number_one e in omega arith
 
 feed_numbered : (p : Progress) (spare : State) (l : List ℕ) → Numbered (pieces.told (feeding p spare l))
 unfolding feeding
 feed_numbered p spare l = go (sized spare)
   where
     go : (b : Bool) → Numbered (pieces.told (pick b (Come (fed p spare l)) wrong_length))
-    go true = λ n q e z. told-apart e
+    go true = λ n q e z. told_apart e
     go false = above_zero 6 0 (omega arith)
 
 pub feed_taken : (p : Progress) (spare : State) (l : List ℕ)
@@ -156,7 +156,7 @@ close_numbered p live spare =
         (refused 6 0))
     go true true m c d f g = above_zero 1 0 (omega arith)
     go true false false c d f g = above_zero 15 0 (omega arith)
-    go true false true true true f g = λ n q e z. told-apart e
+    go true false true true true f g = λ n q e z. told_apart e
     go true false true true false true g = above_zero 3 p.place (omega arith)
     go true false true true false false true = above_zero 4 p.place (omega arith)
     go true false true true false false false = above_zero 5 p.place (omega arith)
@@ -192,7 +192,7 @@ by_decoded : (d : Decoded) → place_of d ≤ 0x117 → ((r : Refusal) → d ≡
     → as_taken (decode_call d) ≡ decode_answer d
 by_decoded (decoded.Held x) h z = refl
 by_decoded (decoded.Refused r) h z =
-    taken (refused r.number r.place) (omega arith) (λ n p e y. z r refl (number-one e ∙ y))
+    taken (refused r.number r.place) (omega arith) (λ n p e y. z r refl (number_one e ∙ y))
 
 pub decode_taken : (s : State) → as_taken (decode_call (decoded_of s)) ≡ decode_answer (decoded_of s)
 decode_taken s =
@@ -200,9 +200,9 @@ decode_taken s =
 
 by_drawn : (d : Drawn) → drawn_value d ≤ 0x117 → ((r : Refusal) → d ≡ drawn.Refused r → r.number ≡ 0 → ⊥)
     → as_taken (fragment_call d) ≡ fragment_answer d
-by_drawn (drawn.Done o) h z = taken (answered (verdict_number o.verdict)) (omega arith) (λ n p e y. told-apart e)
+by_drawn (drawn.Done o) h z = taken (answered (verdict_number o.verdict)) (omega arith) (λ n p e y. told_apart e)
 by_drawn (drawn.Refused r) h z =
-    taken (refused r.number r.place) (omega arith) (λ n p e y. z r refl (number-one e ∙ y))
+    taken (refused r.number r.place) (omega arith) (λ n p e y. z r refl (number_one e ∙ y))
 
 pub fragment_taken : (s : State) (words : List ℕ) → as_taken (fragment_call (fragment_of s words)) ≡ fragment_answer (fragment_of s words)
 fragment_taken s words =

@@ -11,7 +11,7 @@ use borrow.Author.Tests.{leb-true, leb-false, eqb-true}
 use Rattle.numbers.specs.Pick.{pick}
 use Rattle.numbers.specs.Answer.{Answer, answered, refused}
 use Rattle.numbers.specs.Room.{level, and_then, if_room}
-use Rattle.numbers.proofs.Answers.{told-apart, number-one, place-one}
+use Rattle.numbers.proofs.Answers.{told_apart, number_one, place_one}
 use Rattle.numbers.proofs.Room.{level_lengths, lengths_level, room_answered, room_refused}
 use Rattle.words.specs.Commands.{all_writes, expansion, legal, well_formed}
 use Rattle.registers.specs.State.{State, sized}
@@ -33,15 +33,15 @@ module _ (l is ms vs : List ℕ) where
       → (verdict l ≡ answered n) × (n ≤ length is)
   by_room n (answered m) v e =
       let r = room_answered 22 need (length is) n e in (v ∙ ap answered ((verdict_accepted l m v).2 ∙ sym r.0), r.1)
-  by_room n (refused m p) v e = absurd (told-apart (sym e))
+  by_room n (refused m p) v e = absurd (told_apart (sym e))
 
   by_tests : (n : ℕ) (a b : Bool) → level is ms vs ≡ a → leb (length l) 65536 ≡ b
       → pick a (pick b (and_then (verdict l) (if_room 22 need (length is))) (refused 1 0)) (refused 7 0) ≡ answered n
       → OneLength is ms vs × (length l ≤ 65536) × (verdict l ≡ answered n) × (n ≤ length is)
   by_tests n true true t u e =
       let r = by_room n (verdict l) refl e in (level_lengths is ms vs t, leb-true _ _ u, r.0, r.1)
-  by_tests n true false t u e = absurd (told-apart (sym e))
-  by_tests n false b t u e = absurd (told-apart (sym e))
+  by_tests n true false t u e = absurd (told_apart (sym e))
+  by_tests n false b t u e = absurd (told_apart (sym e))
 
   pub writes_tested : (n : ℕ) → writes_answer l is ms vs ≡ answered n
       → OneLength is ms vs × (length l ≤ 65536) × (verdict l ≡ answered n) × (n ≤ length is)
@@ -94,8 +94,8 @@ module _ (l is ms vs : List ℕ) where
       → WritesRefused l is ms vs n p
   by_lengths n p true true t u e = by_verdict n p (verdict l) t (leb-true _ _ u) refl e
   by_lengths n p true false t u e =
-      inr (inl (sym (number-one e), sym (place-one e), level_lengths is ms vs t, leb-false _ _ u))
-  by_lengths n p false b t u e = inl (sym (number-one e), sym (place-one e), differ t)
+      inr (inl (sym (number_one e), sym (place_one e), level_lengths is ms vs t, leb-false _ _ u))
+  by_lengths n p false b t u e = inl (sym (number_one e), sym (place_one e), differ t)
 
   pub writes_row : (n p : ℕ) → writes_answer l is ms vs ≡ refused n p → WritesRefused l is ms vs n p
   unfolding writes_answer

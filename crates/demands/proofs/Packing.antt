@@ -8,7 +8,7 @@ use native.Mathlib.Omega.{arith}
 use lib.ListN.{length, drop}
 use Rattle.numbers.specs.Answer.{Answer, answered, refused}
 use Rattle.numbers.specs.Room.{and_then, if_room, space_after}
-use Rattle.numbers.proofs.Answers.{told-apart, number-one}
+use Rattle.numbers.proofs.Answers.{told_apart, number_one}
 use Rattle.numbers.proofs.Room.{room_enough, room_short, room_answered, room_refused}
 use Rattle.words.specs.Writes.{Write, kept}
 use Rattle.words.specs.Commands.{expansion}
@@ -31,7 +31,7 @@ use Rattle.demands.proofs.Said.{said_packable, packable_said}
 
 -- "No lent memory changes on any refusal"
 stays : (a : Answer) (l old : List ℕ) (n p : ℕ) → a ≡ refused n p → space_after a l old ≡ old
-stays (answered m) l old n p e = absurd (told-apart e)
+stays (answered m) l old n p e = absurd (told_apart e)
 stays (refused m q) l old n p e = refl
 
 pub refused_pack : (is ms vs old : List ℕ) (n p : ℕ) → pack_answer is ms vs (length old) ≡ refused n p → pack_space is ms vs old ≡ old
@@ -60,13 +60,13 @@ module _ (is ms vs : List ℕ) where
   pub answered_then : (room n : ℕ) → pack_answer is ms vs room ≡ answered n → PackableRun is ms vs × (n ≡ length list) × (n ≤ room)
   answered_then room n e =
       ⊎_elim (λ g. let r = room_answered 10 (length list) room n g.1 in (g.0, r.0, r.1))
-      (λ x. absurd (told-apart x.2)) (cases room (answered n) e)
+      (λ x. absurd (told_apart x.2)) (cases room (answered n) e)
 
   -- "no room" is said for its length, for which there is none
   pub no_room_then : (room n : ℕ) → pack_answer is ms vs room ≡ refused 10 n → PackableRun is ms vs × (n ≡ length list) × (room < n)
   no_room_then room n e =
       ⊎_elim (λ g. let r = room_refused 10 (length list) room 10 n g.1 in (g.0, r.1, r.2))
-      (λ x. absurd (omega (arith, x.3, number-one x.2))) (cases room (refused 10 n) e)
+      (λ x. absurd (omega (arith, x.3, number_one x.2))) (cases room (refused 10 n) e)
 
 -- a run that is packed, or for which there is no room, is one that some accepted list carries
 pub given_said : (is ms vs : List ℕ) → PackableRun is ms vs → Said (writes is ms vs)

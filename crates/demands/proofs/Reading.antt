@@ -8,7 +8,7 @@ use lib.ListN.{length}
 use borrow.Author.Tests.{leb-true, le-leb, eq-eqb, eqb-true}
 use Rattle.numbers.specs.Pick.{pick}
 use Rattle.numbers.specs.Answer.{answered, refused}
-use Rattle.numbers.proofs.Answers.{told-apart}
+use Rattle.numbers.proofs.Answers.{told_apart}
 use Rattle.words.specs.Writes.{Write}
 use Rattle.words.specs.Commands.{all_writes, expansion, legal, well_formed}
 use Rattle.registers.specs.State.{State, sized}
@@ -39,8 +39,8 @@ by_tests : (s : State) (l : List ℕ) (n : ℕ) (a b : Bool) → sized s ≡ a �
     → pick a (pick b (verdict l) (refused 1 0)) (refused 6 0) ≡ answered n
     → (sized s ≡ true) × (length l ≤ 65536) × (verdict l ≡ answered n)
 by_tests s l n true true t u e = (t, leb-true _ _ u, e)
-by_tests s l n true false t u e = absurd (told-apart (sym e))
-by_tests s l n false b t u e = absurd (told-apart (sym e))
+by_tests s l n true false t u e = absurd (told_apart (sym e))
+by_tests s l n false b t u e = absurd (told_apart (sym e))
 
 pub read_tested : (s : State) (l : List ℕ) (n : ℕ) → read_answer s l ≡ answered n
     → (sized s ≡ true) × (length l ≤ 65536) × (verdict l ≡ answered n)

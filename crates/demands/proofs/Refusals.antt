@@ -11,7 +11,7 @@ use lib.ListN.{length}
 use borrow.Author.Tests.{leb-true, leb-false, ltb-true, ltb-false}
 use Rattle.numbers.specs.Pick.{pick}
 use Rattle.numbers.specs.Answer.{Answer, refused, unless_fault, answered}
-use Rattle.numbers.proofs.Answers.{told-apart, number-one, place-one}
+use Rattle.numbers.proofs.Answers.{told_apart, number_one, place_one}
 use Rattle.numbers.proofs.Picks.{pick_either}
 use Rattle.words.specs.Writes.{Write, kept, jumps, port_data, fault_of}
 use Rattle.words.specs.Commands.{header_at, whole, expand, commands, legal}
@@ -84,8 +84,8 @@ by_command l ps q zero rest n p c e more =
     let place = ap (λ (x : List ℕ). q ∷ x) r.place in
     record { earlier = q ∷ r.earlier; later = r.later; place = place; first = (c, r.first); why = r.why }
 by_command l ps q (suc f) rest n p c e more =
-    let a : suc f ≡ n = number-one e in
-    let b : p ≡ q = sym (place-one e) in
+    let a : suc f ≡ n = number_one e in
+    let b : p ≡ q = sym (place_one e) in
     record {
       earlier = [];
       later = ps;
@@ -95,13 +95,13 @@ by_command l ps q (suc f) rest n p c e more =
     }
 
 judge_refused : (l ps : List ℕ) (m n p : ℕ) → judge l ps m ≡ refused n p → FirstAtFault l ps n p
-judge_refused l [] m n p e = absurd (told-apart (sym (judge_none l m) ∙ e))
+judge_refused l [] m n p e = absurd (told_apart (sym (judge_none l m) ∙ e))
 judge_refused l (q ∷ ps) m n p e =
     by_command l ps q (command_fault l q) _ n p refl (sym (judge_more l q ps m) ∙ e) (judge_refused l ps (m + length (kept (expand l q))) n p)
 
 by_legal : (l : List ℕ) (n p : ℕ) (b : Bool) → legal l ≡ b → pick b (judged l) (refused 15 0) ≡ refused n p → ListRefused l n p
 by_legal l n p true t e = inr (t, judge_refused l (commands l 0) 0 n p (sym (judged_of_law l) ∙ e))
-by_legal l n p false t e = inl (sym (number-one e), sym (place-one e), t)
+by_legal l n p false t e = inl (sym (number_one e), sym (place_one e), t)
 
 pub verdict_row : (l : List ℕ) (n p : ℕ) → verdict l ≡ refused n p → ListRefused l n p
 unfolding verdict
@@ -110,8 +110,8 @@ verdict_row l n p e = by_legal l n p (legal l) refl e
 by_length : (s : State) (l : List ℕ) (n p : ℕ) (a b : Bool) → sized s ≡ a → leb (length l) 65536 ≡ b
     → pick a (pick b (verdict l) (refused 1 0)) (refused 6 0) ≡ refused n p → ReadRefused s l n p
 by_length s l n p true true t u e = inr (inr (t, leb-true _ _ u, verdict_row l n p e))
-by_length s l n p true false t u e = inr (inl (sym (number-one e), sym (place-one e), t, leb-false _ _ u))
-by_length s l n p false b t u e = inl (sym (number-one e), sym (place-one e), t)
+by_length s l n p true false t u e = inr (inl (sym (number_one e), sym (place_one e), t, leb-false _ _ u))
+by_length s l n p false b t u e = inl (sym (number_one e), sym (place_one e), t)
 
 pub read_row : (s : State) (l : List ℕ) (n p : ℕ) → read_answer s l ≡ refused n p → ReadRefused s l n p
 unfolding read_answer
@@ -120,8 +120,8 @@ read_row s l n p e = by_length s l n p (sized s) (leb (length l) 65536) refl ref
 -- A SINGLE WRITE
 
 by_zero : (f d n p : ℕ) → unless_fault f 0 (answered d) ≡ refused n p → (f ≡ n) × (p ≡ 0) × (n ≡ 0 → ⊥)
-by_zero zero d n p e = absurd (told-apart e)
-by_zero (suc f) d n p e = let a : suc f ≡ n = number-one e in (a, sym (place-one e), λ z. omega arith)
+by_zero zero d n p e = absurd (told_apart e)
+by_zero (suc f) d n p e = let a : suc f ≡ n = number_one e in (a, sym (place_one e), λ z. omega arith)
 
 by_mask : (s : State) (w : Write) (n : ℕ) (a b : Bool) → sized s ≡ a → ltb 15 w.mask ≡ b
     → pick a (pick b 9 (fault_of w.id w.mask)) 6 ≡ n → (n ≡ 0 → ⊥)

@@ -11,7 +11,7 @@ use borrow.Author.Tests.{leb-true, leb-false}
 use Rattle.numbers.specs.Pick.{pick}
 use Rattle.numbers.specs.Answer.{Answer, answered, refused, unless_fault}
 use Rattle.numbers.specs.Room.{level, and_then, if_room}
-use Rattle.numbers.proofs.Answers.{told-apart, number-one, place-one}
+use Rattle.numbers.proofs.Answers.{told_apart, number_one, place_one}
 use Rattle.numbers.proofs.Room.{level_lengths, lengths_level, room_refused}
 use Rattle.numbers.proofs.Picks.{pick_either}
 use Rattle.words.specs.Writes.{fault_of}
@@ -46,17 +46,17 @@ by_write : (x y : ℕ) (is ms : List ℕ) (i f : ℕ) (rest : Answer) (n p : ℕ
 by_write x y is ms i zero rest n p w e more =
     let r = more e in (suc r.0, omega (arith, r.1), omega (arith, r.2), r.3, r.4, passed x y is ms r.0 w r.5)
 by_write x y is ms i (suc f) rest n p w e more =
-    let a : suc f ≡ n = number-one e in
+    let a : suc f ≡ n = number_one e in
     let c = w ∙ a in
-    let b : p ≡ i = sym (place-one e) in
+    let b : p ≡ i = sym (place_one e) in
     let number = perhaps (9 ∷ 3 ∷ 4 ∷ 5 ∷ []) n (rw c at (wrong_number x y)) (λ z. omega arith) in
     (0, omega arith, omega arith, number, c, λ j h. absurd (omega arith))
 
 first_refused : (is ms vs : List ℕ) (i n p : ℕ) → first_wrong i (writes is ms vs) ≡ refused n p → After is ms i n p
 unfolding first_wrong
-first_refused [] ms vs i n p e = absurd (told-apart e)
-first_refused (x ∷ is) [] vs i n p e = absurd (told-apart e)
-first_refused (x ∷ is) (y ∷ ms) [] i n p e = absurd (told-apart e)
+first_refused [] ms vs i n p e = absurd (told_apart e)
+first_refused (x ∷ is) [] vs i n p e = absurd (told_apart e)
+first_refused (x ∷ is) (y ∷ ms) [] i n p e = absurd (told_apart e)
 first_refused (x ∷ is) (y ∷ ms) (v ∷ vs) i n p e =
     by_write x y is ms i (wrong x y) (first_wrong (i + 1) (writes is ms vs)) n p refl e (first_refused is ms vs (i + 1) n p)
 
@@ -69,9 +69,9 @@ by_tests is ms vs n p true true t u e =
     let first : (k : ℕ) → k < p → wrong (get_or is k 0) (get_or ms k 0) ≡ 0 = λ k h. r.5 k (omega arith) in
     let one : OneRefused is ms n p = record { place = omega (arith, r.2); first = first; why = (r.3, rw z at r.4) } in
     inr (inr (level_lengths is ms vs t, leb-true _ _ u, one))
-by_tests is ms vs n p true false t u e = inr (inl (sym (number-one e), sym (place-one e), level_lengths is ms vs t, leb-false _ _ u))
+by_tests is ms vs n p true false t u e = inr (inl (sym (number_one e), sym (place_one e), level_lengths is ms vs t, leb-false _ _ u))
 by_tests is ms vs n p false b t u e =
-    inl (sym (number-one e), sym (place-one e), λ q. false≢true (sym t ∙ lengths_level is ms vs q.0 q.1))
+    inl (sym (number_one e), sym (place_one e), λ q. false≢true (sym t ∙ lengths_level is ms vs q.0 q.1))
 
 pub check_row : (is ms vs : List ℕ) (n p : ℕ) → check_answer is ms vs ≡ refused n p → RunRefused is ms vs n p
 unfolding check_answer

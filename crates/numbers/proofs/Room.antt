@@ -12,7 +12,7 @@ use Rattle.numbers.specs.Pick.{pick}
 use Rattle.numbers.specs.Answer.{answered, refused}
 use Rattle.numbers.specs.Room.{level, if_room}
 use Rattle.numbers.proofs.Tests.{and_true}
-use Rattle.numbers.proofs.Answers.{told-apart, number-one, place-one}
+use Rattle.numbers.proofs.Answers.{told_apart, number_one, place_one}
 
 -- BUFFERS OF ONE LENGTH
 module _ (is ms vs : List ℕ) where
@@ -35,13 +35,13 @@ module _ (number need room n : ℕ) (e : n ≡ need) where
 by_room : (number need room n : ℕ) (b : Bool) → leb need room ≡ b → pick b (answered need) (refused number need) ≡ answered n
     → (n ≡ need) × (n ≤ room)
 by_room number need room n true e f = let h : need ≤ room = leb-true _ _ e in let z : n ≡ need = cc in (z, omega arith)
-by_room number need room n false e f = absurd (told-apart (sym f))
+by_room number need room n false e f = absurd (told_apart (sym f))
 
 by_lack : (number need room r n : ℕ) (b : Bool) → leb need room ≡ b → pick b (answered need) (refused number need) ≡ refused r n
     → (r ≡ number) × (n ≡ need) × (room < n)
-by_lack number need room r n true e f = absurd (told-apart f)
+by_lack number need room r n true e f = absurd (told_apart f)
 by_lack number need room r n false e f =
-    let z : n ≡ need = sym (place-one f) in (sym (number-one f), z, omega (arith, leb-false need room e))
+    let z : n ≡ need = sym (place_one f) in (sym (number_one f), z, omega (arith, leb-false need room e))
 
 -- an answer tells how many are put, for which there is room; a refusal how many there is no room for
 module _ (number need room : ℕ) where

@@ -4,7 +4,7 @@ use borrow.Author.Tests.{lt-leb}
 use Rattle.numbers.specs.Pick.{pick}
 use Rattle.numbers.specs.Answer.{answered, refused, unless_fault}
 use Rattle.numbers.specs.Room.{level}
-use Rattle.numbers.proofs.Answers.{told-apart, unless-refuses, unless-answered}
+use Rattle.numbers.proofs.Answers.{told_apart, unless_refuses, unless_answered}
 use Rattle.numbers.proofs.Room.{level_lengths, lengths_level}
 use Rattle.words.specs.Writes.{Write, fault_of, allowed}
 use Rattle.words.proofs.Laws.{allowed_fault}
@@ -41,7 +41,7 @@ module _ (is ms vs : List ℕ) (i : ℕ) (e : level is ms vs ≡ true) where
 
   pub wrong_here : i < length is → (f : ℕ) → f ≡ wrong (get_or is i 0) (get_or ms i 0) → (f ≡ 0 → ⊥)
       → first_wrong i (drop i (writes is ms vs)) ≡ refused f i
-  wrong_here h f p q = one_more h ∙ rw (← p) (unless-refuses f i _ q)
+  wrong_here h f p q = one_more h ∙ rw (← p) (unless_refuses f i _ q)
 
   pub wrong_end : length is ≤ i → first_wrong i (drop i (writes is ms vs)) ≡ answered 0
   unfolding first_wrong
@@ -60,7 +60,7 @@ wrong_packable : (i n : ℕ) (ws : List Write) → first_wrong i ws ≡ answered
 unfolding first_wrong
 wrong_packable i n [] e = tt
 wrong_packable i n (w ∷ ws) e =
-    let u = unless-answered (wrong w.id w.mask) i n (first_wrong (i + 1) ws) e in
+    let u = unless_answered (wrong w.id w.mask) i n (first_wrong (i + 1) ws) e in
     let a = not_wrong w.id w.mask (ltb 15 w.mask) refl u.0 in
     (a.0, a.1, wrong_packable (i + 1) n ws u.1)
 
@@ -77,8 +77,8 @@ module _ (is ms vs : List ℕ) where
   by_tests n true true t u e =
       let l = level_lengths is ms vs t in
       record { masks = l.0; values = l.1; few = leb-true _ _ u; packable = wrong_packable 0 n (writes is ms vs) e }
-  by_tests n true false t u e = absurd (told-apart (sym e))
-  by_tests n false b t u e = absurd (told-apart (sym e))
+  by_tests n true false t u e = absurd (told_apart (sym e))
+  by_tests n false b t u e = absurd (told_apart (sym e))
 
   -- no refusal says that the writes can be packed
   pub check_given : (n : ℕ) → check_answer is ms vs ≡ answered n → PackableRun is ms vs

@@ -12,7 +12,7 @@ use borrow.Author.Tests.{eq-eqb, eqb-true, ne_eqb}
 use Rattle.numbers.specs.Pick.{pick}
 use Rattle.numbers.specs.Answer.{answered, refused, unless_fault}
 use Rattle.numbers.proofs.Tests.{and_true}
-use Rattle.numbers.proofs.Answers.{unless-answered, told-apart}
+use Rattle.numbers.proofs.Answers.{unless_answered, told_apart}
 use Rattle.words.specs.Writes.{Write, kept, fault_of, allowed}
 use Rattle.words.specs.Commands.{whole, expand, commands, join, all_writes, expansion, full, well_formed, legal}
 use Rattle.words.proofs.Laws.{all_of, expansion_of, kept_none, kept_append, join_none, join_more, formed_of, full_none, full_more}
@@ -77,7 +77,7 @@ judge_accepted l [] n m e =
     let d : n ≡ m = cc (judge_none l n) in
     record { form = full_none l; writes = rw (join_none l) nil_allowed; number = rw (join_none l, kept_none) (omega arith) }
 judge_accepted l (p ∷ ps) n m e =
-    let q = unless-answered (command_fault l p) p m (judge l ps (n + length (kept (expand l p)))) (sym (judge_more l p ps n) ∙ e) in
+    let q = unless_answered (command_fault l p) p m (judge l ps (n + length (kept (expand l p)))) (sym (judge_more l p ps n) ∙ e) in
     let r = judge_accepted l ps (n + length (kept (expand l p))) m q.1 in
     let f = no_fault (whole l p) (first_fault (expand l p)) q.0 in
     let a : all_allowed (expand l p) ≡ true = allowed_first (expand l p) ∙ eq-eqb (first_fault (expand l p)) 0 f.1 in
@@ -131,7 +131,7 @@ verdict_odd l h = rw (ne_eqb (length l % 4) 0 h)
 by_length : (l : List ℕ) (m : ℕ) (b : Bool) → legal l ≡ b → pick b (judged l) (refused 15 0) ≡ answered m
     → (length l % 4 ≡ 0) × (judged l ≡ answered m)
 by_length l m true t e = (eqb-true _ _ t, e)
-by_length l m false t e = absurd (told-apart (sym e))
+by_length l m false t e = absurd (told_apart (sym e))
 
 pub legal_judged : (l : List ℕ) (m : ℕ) → verdict l ≡ answered m → (length l % 4 ≡ 0) × (judged l ≡ answered m)
 unfolding verdict

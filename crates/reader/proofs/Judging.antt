@@ -9,7 +9,7 @@ use lib.ListN.{length}
 use borrow.Author.Tests.{ne_eqb, le-leb, lt-leb, eqb-true, eqb-false}
 use Rattle.numbers.specs.Pick.{pick}
 use Rattle.numbers.specs.Answer.{answered, refused}
-use Rattle.numbers.proofs.Answers.{unless-refuses}
+use Rattle.numbers.proofs.Answers.{unless_refuses}
 use Rattle.words.specs.Header.{id_of, mask_of, count_of, step_of, words_of, adds_of}
 use Rattle.words.specs.Writes.{Write, kept, fault_of}
 use Rattle.words.specs.Commands.{header_at, run, expand, commands}
@@ -102,7 +102,7 @@ module _ (l : List ℕ) (at : ℕ) where
       → judge l (commands l at) n ≡ refused f at
   judge_fault n f i s e z =
       rw (commands_step l at i)
-      (judge_more l at (commands l (at + words_of h)) n ∙ rw (le-leb (at + words_of h) (length l) s, e) (unless-refuses f at _ z))
+      (judge_more l at (commands l (at + words_of h)) n ∙ rw (le-leb (at + words_of h) (length l) s, e) (unless_refuses f at _ z))
 
   -- what it adds to the expansion is counted
   added_kept : (b : Bool) → eqb (mask_of h) 0 ≡ b → length (kept (expand l at)) ≡ pick b 0 (count_of h + 1)
