@@ -1,6 +1,8 @@
 // A run of writes that can be packed, put into the space as the list written for it: those of mask 0 are dropped, the others' commands
 // planned from the run's end (crate planning) and laid out from its start (crate laying), and the list is filled to a multiple of 4 words.
 // The contracts cite specs/Putting.antt; the list itself is defined in crate runs.
+#![tactic(auto)]
+
 ghost use Rattle.std.specs.Prelude.{◌≡◌, true, ◌∷◌, ◌++◌, ◌+◌, ◌≤◌, ◌<◌, length, take, drop};
 ghost use Rattle.words.specs.Writes.{kept};
 ghost use Rattle.runs.specs.PackedList.{writes, PackableRun, packed, filled, written};

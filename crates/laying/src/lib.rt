@@ -1,5 +1,7 @@
 // The planned commands laid out one after another, from the run's start. The contracts cite specs/Laying.antt, the sizes of crate planning
 // and the packed list of crate runs.
+#![tactic(auto)]
+
 ghost use Rattle.std.specs.Prelude.{◌≡◌, ◌++◌, ◌+◌, ◌≤◌, ◌<◌, eqb, length, drop};
 ghost use Rattle.std.proofs.Math.Seq.{paste};
 ghost use Rattle.numbers.specs.Pick.{pick};

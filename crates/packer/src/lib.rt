@@ -1,5 +1,7 @@
 // A run of writes packed into the shortest list: the writes are checked, and then put as the list written for them (crate filling). The
 // contracts cite specs/Checks.antt and specs/Packing.antt, those within specs/Looking.antt; the list itself is defined in crate runs.
+#![tactic(auto)]
+
 ghost use Rattle.std.specs.Prelude.{◌≡◌, ℕ, ◌≤◌, true, List, length};
 ghost use Rattle.words.specs.Writes.{kept};
 ghost use Rattle.runs.specs.PackedList.{writes, PackableRun, written};

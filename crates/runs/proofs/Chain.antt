@@ -12,9 +12,9 @@ use lib.ListN.{length}
 use borrow.Author.Tests.{eqb-true, eq-eqb, leb-true, leb-false, le-leb, lt-leb}
 use Rattle.numbers.specs.Pick.{pick}
 use Rattle.numbers.proofs.Tests.{and_true}
-use Rattle.words.specs.Writes.{Write}
+use Rattle.words.specs.Writes.{Write, writing}
 use Rattle.words.specs.Header.{mask_of, count_of, step_of, id_of}
-use Rattle.words.specs.Commands.{header_at, run, expand}
+use Rattle.words.specs.Commands.{header_at, param_at, run, expand}
 use Rattle.cuts.specs.Cuts.{Spans}
 use Rattle.runs.specs.Span.{leads, chain, span}
 use Rattle.runs.specs.PackedList.{step_for}
@@ -120,7 +120,9 @@ module _ (l : List ℕ) (at : ℕ) (ws : List Write) where
   chain_run : (n k i : ℕ) → n ≤ chain (step_of (header_at l at)) (run l at n k i ++ ws)
   unfolding chain run
   chain_run zero k i = omega arith
-  chain_run (suc zero) k i = (picked (leads (step_of (header_at l at)) _ ws) (chain (step_of (header_at l at)) ws)).0
+  chain_run (suc zero) k i =
+      let w = writing i (mask_of (header_at l at)) (param_at l at k) in
+      (picked (leads (step_of (header_at l at)) w ws) (chain (step_of (header_at l at)) ws)).0
   chain_run (suc (suc n)) k i =
       let s = step_of (header_at l at) in
       let m = mask_of (header_at l at) in

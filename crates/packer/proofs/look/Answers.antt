@@ -1,0 +1,72 @@
+-- Each way out is one case of `checkAnswer`; what is passed at once has no mask 0. The loop: no write before i is refused, so what is left decides. Assumes nothing.
+use Rattle.std.proofs.Common.{◌≡◌, true, drop, refl, ◌∙◌, arith}
+use mathlib.Core.Bool.{false≢true}
+use Rattle.runs.specs.PackedList.{writes}
+use Rattle.packer.specs.Checks.{first_wrong, check_answer}
+use Rattle.numbers.specs.Room.{level}
+use Rattle.numbers.proofs.Room.{level_lengths}
+use Rattle.packer.proofs.Checks.{check_lengths, check_many, check_writes, wrong_none, wrong_here, wrong_end}
+use Rattle.packer.proofs.look.Goals as goal
+use Rattle.packer.proofs.look.Goals.{At-loop-i}
+
+one_length : (c : At-loop-i)
+    → level c.args.ids.now c.args.masks.now c.args.values.now ≡ true
+one_length c = c.if-not-n-masks.false
+
+from-i : (c : At-loop-i)
+    → check_answer c.args.ids.now c.args.masks.now c.args.values.now
+    ≡ first_wrong c.loop-i.i
+    (drop c.loop-i.i (writes c.args.ids.now c.args.masks.now c.args.values.now))
+from-i c = check_writes _ _ _ (one_length c) c.if-n-gt4096.false ∙ c.loop-i.invariant.1
+
+pub returns-then-not-n-masks : goal.returns-then-not-n-masks
+returns-then-not-n-masks c =
+    check_lengths _ _ _ (c.if-not-n-masks.true)
+
+pub returns-then-n-gt4096 : goal.returns-then-n-gt4096
+returns-then-n-gt4096 c =
+    check_many _ _ _ (c.if-not-n-masks.false) c.if-n-gt4096.true
+
+pub all_right-requires : goal.all_right-requires
+all_right-requires c =
+    let a = c.args in
+    ((level_lengths a.ids.now a.masks.now a.values.now (c.if-not-n-masks.false)).0, c.if-n-gt4096.false)
+
+pub returns-then-all_right : goal.returns-then-all_right
+returns-then-all_right c =
+    let a = c.args in
+    let t = c.if-not-n-masks.false in
+    let l = level_lengths a.ids.now a.masks.now a.values.now t in
+    let d = c.all_right.ensures a.values.now l.1 c.if-all_right.true in
+    (check_writes _ _ _ t c.if-n-gt4096.false ∙ d.right, (λ e. d.live))
+
+pub loop-i-init : goal.loop-i-init
+loop-i-init c =
+    (omega arith, refl)
+
+pub bounds-masks-i : goal.bounds-masks-i
+bounds-masks-i c =
+    let a = c.args in
+    let l = level_lengths a.ids.now a.masks.now a.values.now (one_length (goal.at.bounds-masks-i c).At-loop-i) in
+    omega arith
+
+pub returns-then-why-ne0 : goal.returns-then-why-ne0
+returns-then-why-ne0 c =
+    let a = c.args in
+    let w = c.wrong_with-why in
+    let t = c.loop-i-test.true in
+    from-i (goal.at.returns-then-why-ne0 c).At-loop-i ∙ wrong_here a.ids.now a.masks.now a.values.now _ (one_length (goal.at.returns-then-why-ne0 c).At-loop-i) t w.result w.ensures c.if-why-ne0.true
+
+pub loop-i-preserved : goal.loop-i-preserved
+loop-i-preserved c =
+    let a = c.args in
+    let w = c.wrong_with-why in
+    let t = c.loop-i-test.true in
+    let none = wrong_none a.ids.now a.masks.now a.values.now _ (one_length (goal.at.loop-i-preserved c).At-loop-i) t w.result w.ensures c.if-why-ne0.false in
+    (omega arith, c.loop-i.invariant.1 ∙ none)
+
+pub returns : goal.returns
+returns c =
+    let a = c.args in
+    let e = wrong_end a.ids.now a.masks.now a.values.now _ (one_length (goal.at.returns c).At-loop-i) c.loop-i-test.false in
+    (from-i (goal.at.returns c).At-loop-i ∙ e, (λ t. absurd (false≢true t)))
