@@ -7,7 +7,7 @@ use Rattle.registers.specs.State.{State}
 use Rattle.registers.specs.Applied.{apply, apply_all, difference, differences}
 use Rattle.registers.proofs.Differences.{differences_none, differences_more}
 use Rattle.commands.proofs.Applying.{apply_none, apply_more}
-use Rattle.parts.specs.Progress.{first_of, sound, makes, after, made}
+use Rattle.parts.specs.Progress.{first_of, sound, after, made}
 use Rattle.parts.specs.declared.Progress.{Progress}
 use Rattle.parts.proofs.Steps.{after_none, made_none}
 

@@ -4,7 +4,7 @@ use contract.Lifetimes.{Lfts}
 use borrow.Fn.Kinds.{Dens}
 use Rattle.numbers.specs.Settled.{Settles, settled}
 use Rattle.registers.specs.State.{st}
-use Rattle.registers.specs.Applied.{apply_all, differences}
+use Rattle.registers.specs.Applied.{apply_all}
 use Rattle.parts.specs.Progress.{made, onward}
 use Rattle.parts.proofs.take_part.Reads as take_part_reads
 use Rattle.parts.proofs.take_part.Kinds as take_part_kinds

@@ -1,6 +1,5 @@
 -- What several words do at once: the extra parameters of a command in one run, and a whole command. Assumes nothing.
-use Rattle.std.proofs.Common.{◌≡◌, ℕ, zero, suc, ◌+◌, ◌-◌, ◌%◌, ◌<◌, ◌≤◌, Bool, true, false, eqb, List, [], ◌∷◌, ◌++◌, length, get_or, drop, sym, refl, ap, ◌∙◌, append_assoc, append-nil, add-one, arith, length-append, drop-cons, eq-eqb}
-use Rattle.numbers.specs.Pick.{pick}
+use Rattle.std.proofs.Common.{◌≡◌, ℕ, zero, suc, ◌+◌, ◌-◌, ◌%◌, ◌<◌, ◌≤◌, true, List, [], ◌∷◌, ◌++◌, length, get_or, drop, sym, refl, ap, ◌∙◌, append_assoc, append-nil, add-one, arith, length-append, drop-cons, eq-eqb}
 use Rattle.words.specs.Header.{id_of, mask_of, count_of, step_of, words_of, adds_of}
 use Rattle.words.specs.Writes.{Write, writing, kept, fault_of}
 use Rattle.words.proofs.Laws.{kept_none, kept_append}

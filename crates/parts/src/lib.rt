@@ -1,5 +1,7 @@
 // The words of a part of a list, one after another, and how many of the writes that they make made a difference. The contracts cite
 // specs/Progress.antt and specs/Leads.antt.
+#![tactic(auto)]
+
 ghost use Rattle.std.specs.Prelude.{◌≡◌, ◌+◌, ◌<◌, ◌≤◌, min, length};
 ghost use Rattle.numbers.specs.Bits.{spread};
 ghost use Rattle.words.specs.Header.{id_of, mask_of};

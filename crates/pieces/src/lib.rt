@@ -1,5 +1,7 @@
 // A list that arrives in pieces: a reader that is opened, fed parts cut anywhere, and closed. It works on a spare state that is lent beside
 // the live one. The contracts cite specs/Pieces.antt, and specs/Progress.antt of `parts`.
+#![tactic(auto)]
+
 ghost use Rattle.std.specs.Prelude.{◌≡◌};
 ghost use Rattle.numbers.specs.Answer.{neither};
 ghost use Rattle.registers.specs.State.{st};

@@ -1,5 +1,7 @@
 // The writes of a list's expansion: the list is judged as the reader judges it, and then its writes are put into three buffers, ids, masks
 // and values, command by command; those of mask 0 are passed over. The contracts cite specs/Listed.antt.
+#![tactic(auto)]
+
 ghost use Rattle.std.specs.Prelude.{◌≡◌, true, ◌++◌, ◌≤◌, length, drop};
 ghost use Rattle.words.specs.Writes.{ids_in, masks_in, values_in};
 ghost use Rattle.words.specs.Commands.{expansion, well_formed};
