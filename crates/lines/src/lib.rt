@@ -1,4 +1,6 @@
 // The small program's line: the bytes of an input read as words, and the verdict on them as text. The contracts cite specs/Lines.antt.
+#![tactic(auto)]
+
 ghost use Rattle.std.specs.Prelude.{◌≡◌, ◌+◌, ◌*◌, ◌/◌, ◌≤◌, length, take};
 ghost use Rattle.numbers.specs.Answer.{answered, refused};
 ghost use Rattle.reader.specs.Read.{told};

@@ -1,0 +1,36 @@
+-- `lines::line_of` meets its contract, by the verdict on the words and by what `line_for` ensures. Assumes nothing.
+use mathlib.Core.Path.{◌≡◌, sym, ap, ◌∙◌}
+use native.Mathlib.Omega.{arith}
+use lib.Seq.{length-take-le}
+use Rattle.reader.specs.ListVerdict.{verdict}
+use Rattle.reader.specs.Read.{told}
+use Rattle.lines.specs.Lines.{line_for, line_of}
+use Rattle.lines.specs.Text.{ascii}
+use Rattle.lines.proofs.Text.{put_first}
+use Rattle.lines.proofs.Inputs.{list_fits, line_of_list, line_of_other}
+use Rattle.lines.proofs.line_of.Goals as goal
+
+pub put_words-n-requires : goal.put_words-n-requires
+put_words-n-requires c = let n = list_fits c.args.bytes.now c.if-bytes.true in omega arith
+
+pub slice_bounds-words-end : goal.slice_bounds-words-end
+slice_bounds-words-end c =
+    let n = list_fits c.args.bytes.now c.if-bytes.true in omega arith
+
+pub slice_bounds-judge_list-end : goal.slice_bounds-judge_list-end
+slice_bounds-judge_list-end c =
+    let n = list_fits c.args.bytes.now c.if-bytes.true in
+    sym (length-take-le c.put_words-n.result c.put_words-n.new.words (omega arith))
+
+pub returns-then-bytes : goal.returns-then-bytes
+returns-then-bytes c =
+    let judged = c.judge_list in
+    let b = c.args.bytes.now in
+    let v = judged.ensures ∙ ap verdict c.put_words-n.ensures.1 in
+    let e : line_for (told judged.result) ≡ line_of b = ap line_for v ∙ sym (line_of_list b c.if-bytes.true) in
+    rw (← e) c.line_for.ensures
+
+pub returns-else-bytes : goal.returns-else-bytes
+returns-else-bytes c =
+    let e = line_of_other c.args.bytes.now c.if-bytes.false in
+    rw e (put_first _ (ascii "input\n") c.put_text.ensures)
