@@ -4,7 +4,6 @@ use Rattle.filling.proofs.Keeping.{parts_writes, parts_few, parts_given}
 use Rattle.filling.proofs.Keeping.{puts_kept}
 use Rattle.filling.proofs.fill_parts.Goals as goal
 
--- the writes given, and where those that are kept stand
 pub fill-requires : goal.fill-requires
 fill-requires c =
     let a = c.args in

@@ -1,4 +1,4 @@
--- Each way out is one case of `checkAnswer`; what is passed at once has no mask 0. The loop: no write before i is refused, so what is left decides. Assumes nothing.
+-- Each way out is one case of `check_answer`; what is passed at once has no mask 0. The loop: no write before i is refused, so what is left decides. Assumes nothing.
 use Rattle.std.proofs.Common.{◌≡◌, true, drop, refl, ◌∙◌, arith}
 use mathlib.Core.Bool.{false≢true}
 use Rattle.runs.specs.PackedList.{writes}
