@@ -1,4 +1,4 @@
--- Not of the document: colours as words, by `colourOf` of settings; and the table of colours by code, which the code keeps in one array
+-- Not of the document: colours as words, by `colour_of` of settings; and the table of colours by code, which the code keeps in one array
 -- and changes from stage to stage.
 use Rattle.std.specs.Prelude.{Bool, ◌&&◌, List, map, ℕ, eqb, get_or, set}
 use Rattle.settings.specs.Ranges.{bits, in_cells}

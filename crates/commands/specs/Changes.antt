@@ -1,4 +1,4 @@
--- How often the values of a command to one id change its cell. Not of the document: law `held-counts` says that as many of its writes made
+-- How often the values of a command to one id change its cell. Not of the document: law `held_counts` says that as many of its writes made
 -- a difference.
 use Rattle.std.specs.Prelude.{not, List, ℕ, zero, suc, ◌+◌, eqb, get_or}
 use Rattle.numbers.specs.Bits.{merge}

@@ -1,4 +1,4 @@
--- When no write of a command can be at fault, by the first and the last of its ids. Not of the document: law `clear-fault` says what it is
+-- When no write of a command can be at fault, by the first and the last of its ids. Not of the document: law `clear_fault` says what it is
 -- for.
 use Rattle.std.specs.Prelude.{Bool, ◌&&◌, ◌||◌, ℕ, ◌+◌, leb, ltb, eqb}
 use Rattle.numbers.specs.Pick.{pick}

@@ -1,4 +1,4 @@
--- The writes of a command whose values stand at any place, and not after its header. Not of the document: law `expand-from` says that the
+-- The writes of a command whose values stand at any place, and not after its header. Not of the document: law `expand_from` says that the
 -- writes of a command in a list are such a run.
 use Rattle.std.specs.Prelude.{List, [], ◌∷◌, ℕ, zero, suc, ◌+◌, get_or}
 use Rattle.words.specs.Writes.{Write, writing}

@@ -201,7 +201,7 @@ pub fn apply_values(
 
 // The writes of a command with the header `h`, by what it writes to: a port's data, one other id, or ids that rise. Its first value is
 // `first`, the others stand in `list` from `from` on, which is not its start. Tells how many of them made a difference. Its mask isn't
-// looked at: allowed writes of mask 0, which belong to no expansion, change nothing (law `Kept-same`).
+// looked at: allowed writes of mask 0, which belong to no expansion, change nothing (law `kept_same`).
 pub fn apply_run(
     cells: &mut [u32],
     fog: &mut [u32],

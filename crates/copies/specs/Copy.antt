@@ -15,8 +15,8 @@ cell_taking i old new = pick (eqb (bits_of i) 0) old (merge (bits_of i) old new)
 abbrev pub entry_taking : ℕ → ℕ → ℕ → ℕ
 entry_taking i old new = entry old new
 
--- `to`, its first n elements each with what f takes of the same element of `from`, the rest as it was; laws `taking-done` and
--- `taking-later` say so
+-- `to`, its first n elements each with what f takes of the same element of `from`, the rest as it was; laws `taking_done` and
+-- `taking_later` say so
 unfoldable pub taking : (ℕ → ℕ → ℕ → ℕ) → ℕ → List ℕ → List ℕ → List ℕ
 taking f zero to from = to
 taking f (suc n) to from = let t = taking f n to from in set t n (f n (get_or t n 0) (get_or from n 0))

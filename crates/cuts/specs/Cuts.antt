@@ -33,14 +33,14 @@ Most (k ∷ ks) [] = ⊥
 Most (k ∷ ks) (j ∷ js) = (j < k) ⊎ ((j ≡ k) × Most ks js)
 
 -- NOT OF THE DOCUMENT: how the answer is found. That it is the document's, the fewest words and then the most writes in the first
--- command, is said by laws alone: `least-low`, `sizes-least`, `sizes-most`, and of lists by `packed-rule` of crate runs
+-- command, is said by laws alone: `least_low`, `sizes_least`, `sizes_most`, and of lists by `packed_rule` of crate runs
 
 -- the words of a run whose first command carries k writes, where t has the words of what is left after 1, 2, .. writes
 abbrev pub after : List ℕ → ℕ → ℕ
 after t k = words k + get_or t (k - 1) 0
 
 -- the size of the first command: n, the most that it can carry, or one fewer where that takes fewer words; never none, since a command of
--- no write would take the words of one (law `size-lone`)
+-- no write would take the words of one (law `size_lone`)
 abbrev pub size : ℕ → List ℕ → ℕ
 size n t = pick (ltb (after t (n - 1)) (after t n)) (n - 1) n
 
@@ -49,7 +49,7 @@ unfoldable pub table : {A : Type 0} → (List A → ℕ) → List A → List ℕ
 table span [] = 0 ∷ []
 table span (a ∷ l) = let t = table span l in let k = size (span (a ∷ l)) t in after t k ∷ t
 
--- THE LEAST WORDS of a run, before filling: by this choice, and that no cut takes fewer is law `least-low`
+-- THE LEAST WORDS of a run, before filling: by this choice, and that no cut takes fewer is law `least_low`
 abbrev pub least : {A : Type 0} → (List A → ℕ) → List A → ℕ
 least span l = get_or (table span l) 0 0
 

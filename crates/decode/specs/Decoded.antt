@@ -43,7 +43,7 @@ unfoldable pub decoded_of : State → Decoded
 decoded_of s =
     pick (sized s) (pick (eqb (nameless_id s) 0) (Held (settings_of s)) (refusal 13 (nameless_id s))) (refusal 6 0)
 
--- NOT OF THE DOCUMENT: the two cases of `decodedOf` apart
+-- NOT OF THE DOCUMENT: the two cases of `decoded_of` apart
 
 -- it isn't refused
 unfoldable pub decodable : State → Bool

@@ -102,7 +102,7 @@ module _ {s t : State} {w : Write} {d : Bool} (c : WriteCall s w (written.Done d
 
 -- "a read list should give, besides its number of writes, how many of them made a difference. That second number is the count over the
 -- expansion, each write judged on the state left by those before it"; writes with mask 0 "no longer belong to an expansion: .. the counts
--- of an expansion leave them out"; that single writes in turn tell as many is `writes-then-write`, Between.antt
+-- of an expansion leave them out"; that single writes in turn tell as many is `writes_then_write`, Between.antt
 module _ {s t : State} {l : List ℕ} {c : Counts} (r : ReadCall s l (reading.Accepted c) t) where
   pub read_counts : (c.writes ≡ length (expansion l)) × (c.differences ≡ differences s (expansion l))
   read_counts = let e = (read_accepts_only r).1 in (ap (λ (x : Counts). x.writes) e, ap (λ (x : Counts). x.differences) e)

@@ -1,5 +1,5 @@
 -- REQUEST 3, the sixteen-byte rule and writes with mask 0, from the contracts. The demands in this sense are in EndToEnd.antt, the close in
--- EachCall.antt (`close-long`, `close-illegal`), the counts in Differences.antt. Assumes nothing.
+-- EachCall.antt (`close_long`, `close_illegal`), the counts in Differences.antt. Assumes nothing.
 use mathlib.Core.Path.{◌≡◌, refl, sym, ap, ◌∙◌}
 use mathlib.Core.Bool.{true, false}
 use mathlib.Core.List.{List, [], ◌++◌}

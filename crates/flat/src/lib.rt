@@ -5,7 +5,7 @@ ghost use Rattle.std.specs.Prelude.{◌≡◌, ◌++◌, ◌+◌, ◌≤◌, len
 ghost use Rattle.settings.specs.Fields.{twos};
 ghost use Rattle.settings.specs.Flat.{rasteriser_words, stage_words, fog_words, colour_words, blending_words, tests_words, buffers_words};
 ghost use Rattle.settings.specs.Flat.{light_port_words, flat};
-ghost use Rattle.flat.specs.Groups.{words_to_dC, words_to_fD, words_to1_c5};
+ghost use Rattle.flat.specs.Groups.{words_to_dc, words_to_fd, words_to_1c5};
 
 use settings::records::{
     Blending, BufferFog, Buffers, Colour, Framebuffer, LightPort, Rasteriser, Settings, Stage,
@@ -202,7 +202,7 @@ fn lay_stage(fields: &mut [u32], at: usize, s: Stage)
 // The fields of 40 to DC: the first 100.
 fn lay_to_dc(fields: &mut [u32], rasteriser: Rasteriser, stages: Stages)
     requires { length fields.old ≡ 204 }
-    ensures { take 100 fields.new ≡ words_to_dC rasteriser stages }
+    ensures { take 100 fields.new ≡ words_to_dc rasteriser stages }
 {
     let ws = rasteriser_words(rasteriser);
     lay(fields, 0, &ws);
@@ -215,7 +215,7 @@ fn lay_to_dc(fields: &mut [u32], rasteriser: Rasteriser, stages: Stages)
 // Those of E0 to FD: the next 60.
 fn lay_to_fd(fields: &mut [u32], buffer: BufferFog, stages: Stages)
     requires { length fields.old ≡ 204 }
-    ensures { take 160 fields.new ≡ take 100 fields.old ++ words_to_fD buffer stages }
+    ensures { take 160 fields.new ≡ take 100 fields.old ++ words_to_fd buffer stages }
 {
     let fog = fog_words(buffer);
     lay(fields, 100, &fog);
@@ -228,7 +228,7 @@ fn lay_to_fd(fields: &mut [u32], buffer: BufferFog, stages: Stages)
 // Those of 100 to 1C5: the last 44.
 fn lay_to_1c5(fields: &mut [u32], framebuffer: Framebuffer, port: LightPort)
     requires { length fields.old ≡ 204 }
-    ensures { take 204 fields.new ≡ take 160 fields.old ++ words_to1_c5 framebuffer port }
+    ensures { take 204 fields.new ≡ take 160 fields.old ++ words_to_1c5 framebuffer port }
 {
     let blending = blending_words(framebuffer.blending);
     lay(fields, 160, &blending);

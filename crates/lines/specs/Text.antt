@@ -14,7 +14,7 @@ unfoldable pub digits : ℕ → ℕ → List ℕ
 digits zero n = []
 digits (suc k) n = let front = digits k (n / 10) in pick (ltb n 10) [] front ++ ((48 + n % 10) ∷ [])
 
--- A NUMBER IN DECIMAL: it has no more digits than its value and one more. Laws `decimal_digit` and `decimal-more` say the
+-- A NUMBER IN DECIMAL: it has no more digits than its value and one more. Laws `decimal_digit` and `decimal_more` say the
 -- same without a count
 unfoldable pub decimal : ℕ → List ℕ
 decimal n = digits (suc n) n

@@ -125,12 +125,12 @@ passed p = moved p (p.come + 1) p.id p.left p.pad p.fault
 
 -- which of these a word is: the six cases, by one test after another
 abbrev pub by_word : {A : Type 0} → Progress → A → A → A → A → A → A → A
-by_word p ifPast ifExtra ifPadding ifHeader ifFirst ifPassed =
-    pick (nat_lt 65535 p.come) ifPast
-    (pick (nat_lt 0 p.left) ifExtra
-    (pick (nat_lt 0 p.pad) ifPadding
-    (pick (nat_lt 0 p.begun) ifHeader
-    (pick (p.fault == 0) ifFirst ifPassed))))
+by_word p if_past if_extra if_padding if_header if_first if_passed =
+    pick (nat_lt 65535 p.come) if_past
+    (pick (nat_lt 0 p.left) if_extra
+    (pick (nat_lt 0 p.pad) if_padding
+    (pick (nat_lt 0 p.begun) if_header
+    (pick (p.fault == 0) if_first if_passed))))
 
 -- THE PROGRESS AFTER ONE WORD, but for its differences
 unfoldable pub next : Progress → ℕ → Progress

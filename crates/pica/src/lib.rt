@@ -204,12 +204,7 @@ pub fn pica_write(
 }
 
 // The writes of a list, put into three buffers: how many there are.
-pub fn pica_writes(
-    list: &[u32],
-    ids: &mut [u32],
-    masks: &mut [u32],
-    values: &mut [u32],
-) -> u64
+pub fn pica_writes(list: &[u32], ids: &mut [u32], masks: &mut [u32], values: &mut [u32]) -> u64
     ensures answer { result ≡ answer (writes_answer list.now ids.old masks.old values.old) }
     ensures ids { ids.new ≡ writes_ids list.now ids.old masks.old values.old }
     ensures masks { masks.new ≡ writes_masks list.now ids.old masks.old values.old }
@@ -233,12 +228,7 @@ pub fn pica_pack(ids: &[u32], masks: &[u32], values: &[u32], space: &mut [u32]) 
 }
 
 // The decoded state, one word a field: 0.
-pub fn pica_decode(
-    cells: &[u32],
-    fog: &[u32],
-    light: &[u32],
-    fields: &mut [u32; 204],
-) -> u64
+pub fn pica_decode(cells: &[u32], fog: &[u32], light: &[u32], fields: &mut [u32; 204]) -> u64
     ensures answer { result ≡ decode_call (decoded_of (st cells.now fog.now light.now)) }
     ensures fields { fields.new
         ≡ fields_after (decoded_of (st cells.now fog.now light.now)) fields.old }

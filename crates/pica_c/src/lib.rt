@@ -60,7 +60,15 @@ pub extern "C" fn pica_open(
         ≡ opened_spare (st cells.now fog.now light.now)
         (st spare_cells.old spare_fog.old spare_light.old) }
 {
-    pica::pica_open(cells, fog, light, spare_cells, spare_fog, spare_light, reader)
+    pica::pica_open(
+        cells,
+        fog,
+        light,
+        spare_cells,
+        spare_fog,
+        spare_light,
+        reader,
+    )
 }
 
 // A part of the list is fed: how many words have come, held at 65,537.
@@ -121,7 +129,16 @@ pub extern "C" fn pica_close(
         ≡ closed_spare (progress_of reader.old) (st cells.old fog.old light.old)
         (st spare_cells.old spare_fog.old spare_light.old) }
 {
-    pica::pica_close(cells, fog, light, spare_cells, spare_fog, spare_light, reader, differences)
+    pica::pica_close(
+        cells,
+        fog,
+        light,
+        spare_cells,
+        spare_fog,
+        spare_light,
+        reader,
+        differences,
+    )
 }
 
 // One write applied to a state: 1 if it made a difference, else 0.

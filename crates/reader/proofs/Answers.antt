@@ -18,9 +18,9 @@ pub record Gives (s : State) (l : List ℕ) (a : Answers) (t : State) : Type 0 w
   pub state : t ≡ read_state s l
 
 module _ (s : State) (l : List ℕ) where
-  pub wrong-lengths : sized s ≡ false → Gives s l (neither 6 0) s
+  pub wrong_lengths : sized s ≡ false → Gives s l (neither 6 0) s
   unfolding read_answer read_answers read_state
-  wrong-lengths e = record { answers = rw e; state = rw e }
+  wrong_lengths e = record { answers = rw e; state = rw e }
 
   pub too_long : sized s ≡ true → 65536 < length l → Gives s l (neither 1 0) s
   unfolding read_answer read_answers read_state
@@ -32,7 +32,7 @@ module _ (s : State) (l : List ℕ) where
   list_refused e h n p v = let k = le-leb (length l) 65536 h in record { answers = rw (e, k, v); state = rw (e, k, v) }
 
   -- an accepted one leaves what its expansion leaves
-  pub list-accepted : sized s ≡ true → length l ≤ 65536 → (n : ℕ) → verdict l ≡ answered n
+  pub list_accepted : sized s ≡ true → length l ≤ 65536 → (n : ℕ) → verdict l ≡ answered n
       → Gives s l (both n (differences s (expansion l))) (apply_all s (expansion l))
   unfolding read_answer read_answers read_state
-  list-accepted e h n v = let k = le-leb (length l) 65536 h in record { answers = rw (e, k, v); state = rw (e, k, v) }
+  list_accepted e h n v = let k = le-leb (length l) 65536 h in record { answers = rw (e, k, v); state = rw (e, k, v) }

@@ -1,6 +1,6 @@
 // Lists that arrive in pieces: request 1 of document 02.
-use std::io;
 use crate::{four, show};
+use std::io;
 
 // "cut anywhere, zero words too"
 fn cuttings(rt: &HostRuntime) -> io::Result<()> {
@@ -13,7 +13,14 @@ fn cuttings(rt: &HostRuntime) -> io::Result<()> {
         3,
         0x40,
     )?;
-    four::in_parts(rt, b"parts of zero words", [2, 0x000F0040, 0, 0], 0, 4, 0x40)?;
+    four::in_parts(
+        rt,
+        b"parts of zero words",
+        [2, 0x000F0040, 0, 0],
+        0,
+        4,
+        0x40,
+    )?;
     show::cut_twice(
         rt,
         b"before the padding word",
@@ -72,7 +79,14 @@ fn refusals(rt: &HostRuntime) -> io::Result<()> {
 }
 
 // n words, zero but for the first two, cut at two places.
-fn long(rt: &HostRuntime, label: &[u8], begin: [u32; 2], n: usize, first: usize, second: usize) -> io::Result<()> {
+fn long(
+    rt: &HostRuntime,
+    label: &[u8],
+    begin: [u32; 2],
+    n: usize,
+    first: usize,
+    second: usize,
+) -> io::Result<()> {
     let mut words = [0u32; 65539];
     words[0] = begin[0];
     words[1] = begin[1];

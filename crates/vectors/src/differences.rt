@@ -1,21 +1,42 @@
 // Did that write change anything? Request 2 of document 02.
-use std::io;
 use crate::{four, show};
+use std::io;
 
 // "A single masked write should also say whether the cell, entry or index it touches differs afterwards"; 107 holds 1F71
 fn single_writes(rt: &HostRuntime) -> io::Result<()> {
     let held = [0x1F71, 0x000F0107, 0, 0];
     show::written(rt, b"another value", 0x107, 15, 0x1F71)?;
     four::written_after(rt, b"the value that is there", held, 0x107, 15, 0x1F71)?;
-    four::written_after(rt, b"equal in the byte that is written", held, 0x107, 1, 0x71)?;
-    four::written_after(rt, b"another in the byte that is written", held, 0x107, 2, 0x71)
+    four::written_after(
+        rt,
+        b"equal in the byte that is written",
+        held,
+        0x107,
+        1,
+        0x71,
+    )?;
+    four::written_after(
+        rt,
+        b"another in the byte that is written",
+        held,
+        0x107,
+        2,
+        0x71,
+    )
 }
 
 // where no held bit becomes another
 fn beside_the_held(rt: &HostRuntime) -> io::Result<()> {
     let held = [0x1F71, 0x000F0107, 0, 0];
     four::written_after(rt, b"bytes without held bits", held, 0x107, 12, 0xFFFF0000)?;
-    four::written_after(rt, b"bits beside the held ones", held, 0x107, 15, 0xFFFFFFFF)?;
+    four::written_after(
+        rt,
+        b"bits beside the held ones",
+        held,
+        0x107,
+        15,
+        0xFFFFFFFF,
+    )?;
     four::written_after(rt, b"mask 0", held, 0x107, 0, 0)?;
     four::written_after(rt, b"an id that isn't held", held, 0x11C, 15, 1)
 }
@@ -29,7 +50,14 @@ fn indices(rt: &HostRuntime) -> io::Result<()> {
         15,
         5,
     )?;
-    four::written_after(rt, b"an index with another", [5, 0x000F00E6, 0, 0], 0xE6, 15, 6)?;
+    four::written_after(
+        rt,
+        b"an index with another",
+        [5, 0x000F00E6, 0, 0],
+        0xE6,
+        15,
+        6,
+    )?;
     show::written(rt, b"refused", 0x23C, 15, 0)
 }
 

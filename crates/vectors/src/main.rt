@@ -2,13 +2,13 @@
 // and the check compares.
 #![tactic(auto)]
 
-mod commands;
+mod command_lists;
 mod cuttings;
 mod differences;
 mod four;
 mod masks;
 mod packing;
-mod ports;
+mod port_lists;
 mod refusals;
 mod show;
 mod sixteen;
@@ -16,9 +16,9 @@ mod sixteen;
 use std::io;
 
 fn main(rt: HostRuntime) -> io::Result<()> {
-    commands::all(&rt)?;
+    command_lists::all(&rt)?;
     masks::all(&rt)?;
-    ports::all(&rt)?;
+    port_lists::all(&rt)?;
     refusals::all(&rt)?;
     packing::all(&rt)?;
     cuttings::all(&rt)?;

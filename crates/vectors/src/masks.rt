@@ -1,6 +1,6 @@
 // Masks: document 004, "Parameter masking", and document 01, "A command" and "Held registers".
-use std::io;
 use crate::{four, show};
+use std::io;
 
 // 004: "commands 0x00010107 and 0x00020107 refer to the same thing but write different parts of the parameter."
 fn parts(rt: &HostRuntime) -> io::Result<()> {
@@ -47,7 +47,12 @@ fn bytes_kept(rt: &HostRuntime) -> io::Result<()> {
 
 // 01: "A write to a held register replaces, of the bits it holds, those in the bytes whose mask bit is 1."
 fn held_bits(rt: &HostRuntime) -> io::Result<()> {
-    four::cell_after(rt, b"bits that 40 holds", [0xFFFFFFFF, 0x000F0040, 0, 0], 0x40)?;
+    four::cell_after(
+        rt,
+        b"bits that 40 holds",
+        [0xFFFFFFFF, 0x000F0040, 0, 0],
+        0x40,
+    )?;
     // 004, "GPUREG_TEXENV_UPDATE_BUFFER": "Texture combiner buffer inputs are typically written with a mask of 0x2, and the
     // gas/fog mode configuration is typically written with a mask of 0x5."
     four::cell_after(

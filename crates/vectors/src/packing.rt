@@ -1,8 +1,8 @@
 // Packing: document 01, "Packing", its examples, and lengths around a command's 256 writes; request 3 of document 02, which fills lists
 // and drops writes with mask 0.
-use std::io;
 use crate::show;
 use packer::Packed;
+use std::io;
 
 // The answer, as `label, n writes: N words` or with its refusal.
 fn put_packed(rt: &HostRuntime, label: &[u8], n: usize, answer: Packed) -> io::Result<()> {
@@ -14,13 +14,16 @@ fn put_packed(rt: &HostRuntime, label: &[u8], n: usize, answer: Packed) -> io::R
 }
 
 // The first n writes, packed into `room` words of the space.
-fn pack_first(rt: &HostRuntime, label: &[u8],
+fn pack_first(
+    rt: &HostRuntime,
+    label: &[u8],
     n: usize,
     room: usize,
     ids: &[u32],
     masks: &[u32],
     values: &[u32],
-    space: &mut [u32],) -> io::Result<()> {
+    space: &mut [u32],
+) -> io::Result<()> {
     if ids.len() < n {
         return Ok(());
     }
@@ -79,7 +82,14 @@ fn rising_ids(rt: &HostRuntime, n: usize) -> io::Result<()> {
 }
 
 // Packs writes, and shows the words that were put.
-fn pack_shown(rt: &HostRuntime, label: &[u8], ids: &[u32], masks: &[u32], values: &[u32], space: &mut [u32]) -> io::Result<()> {
+fn pack_shown(
+    rt: &HostRuntime,
+    label: &[u8],
+    ids: &[u32],
+    masks: &[u32],
+    values: &[u32],
+    space: &mut [u32],
+) -> io::Result<()> {
     let answer = packer::pack(ids, masks, values, space);
     put_packed(rt, label, ids.len(), answer)?;
     let Packed::Words(words) = answer else {

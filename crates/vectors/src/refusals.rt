@@ -1,6 +1,6 @@
 // Refused lists: document 01, "Numbers given back", with the jump registers of document 004.
-use std::io;
 use crate::{four, show};
+use std::io;
 
 // 01: "id above 2FFh".
 fn ids(rt: &HostRuntime) -> io::Result<()> {
@@ -50,7 +50,12 @@ fn order(rt: &HostRuntime) -> io::Result<()> {
     list[1] = 0x8C8301C0;
     show::judged(rt, b"the first fault of many", &list)?;
     // 01, "Easy errors here": "Applying writes while still looking for refusals"
-    four::cell_after(rt, b"nothing is applied", [1, 0x000F0041, 2, 0x000F023C], 0x41)
+    four::cell_after(
+        rt,
+        b"nothing is applied",
+        [1, 0x000F0041, 2, 0x000F023C],
+        0x41,
+    )
 }
 
 pub(crate) fn all(rt: &HostRuntime) -> io::Result<()> {

@@ -1,11 +1,11 @@
 // How a vector is shown: its label with the answer's line, and then what some cells or entries hold after it was read into
 // a state of zeros.
-use std::io;
-use std::io::Write;
 use parts::Progress;
 use pieces::Going;
 use reader::{ListVerdict, Reading};
 use registers::Written;
+use std::io;
+use std::io::Write;
 use words::Refusal;
 
 fn put(rt: &HostRuntime, text: &[u8]) -> io::Result<()> {
@@ -36,7 +36,7 @@ fn put_counts(rt: &HostRuntime, label: &[u8], answer: Reading) -> io::Result<()>
             put_answer(rt, label, ListVerdict::Accepted(counts.writes))?;
             put(rt, b"  differences ")?;
             let n = counts.differences;
-    print!(rt; "{n}")?;
+            print!(rt; "{n}")?;
             put(rt, b"\n")?;
         }
         Reading::Refused(why) => put_answer(rt, label, ListVerdict::Refused(why))?,
@@ -82,32 +82,54 @@ pub(crate) fn judged(rt: &HostRuntime, label: &[u8], list: &[u32]) -> io::Result
 }
 
 // The answer, the cells of these ids, and these entries of the fog table and of the light tables, numbered through all of them.
-fn state_after(rt: &HostRuntime, label: &[u8],
+fn state_after(
+    rt: &HostRuntime,
+    label: &[u8],
     list: &[u32],
     ids: &[u32],
     fog_entries: &[u32],
-    light_entries: &[u32],) -> io::Result<()> {
+    light_entries: &[u32],
+) -> io::Result<()> {
     let mut cells = [0u32; 768];
     let mut fog = [0u32; 128];
     let mut light = [0u32; 6144];
-    put_reading(rt, label, reader::read(&mut cells, &mut fog, &mut light, list))?;
+    put_reading(
+        rt,
+        label,
+        reader::read(&mut cells, &mut fog, &mut light, list),
+    )?;
     put_words(rt, b"cell ", &cells, ids)?;
     put_words(rt, b"fog ", &fog, fog_entries)?;
     put_words(rt, b"light ", &light, light_entries)
 }
 
 // The answer, and the cells of these ids.
-pub(crate) fn cells_after(rt: &HostRuntime, label: &[u8], list: &[u32], ids: &[u32]) -> io::Result<()> {
+pub(crate) fn cells_after(
+    rt: &HostRuntime,
+    label: &[u8],
+    list: &[u32],
+    ids: &[u32],
+) -> io::Result<()> {
     state_after(rt, label, list, ids, &[], &[])
 }
 
 // The answer, the fog index, and these fog entries.
-pub(crate) fn fog_after(rt: &HostRuntime, label: &[u8], list: &[u32], entries: &[u32]) -> io::Result<()> {
+pub(crate) fn fog_after(
+    rt: &HostRuntime,
+    label: &[u8],
+    list: &[u32],
+    entries: &[u32],
+) -> io::Result<()> {
     state_after(rt, label, list, &[0xE6], entries, &[])
 }
 
 // The answer, the light index, and these light entries.
-pub(crate) fn light_after(rt: &HostRuntime, label: &[u8], list: &[u32], entries: &[u32]) -> io::Result<()> {
+pub(crate) fn light_after(
+    rt: &HostRuntime,
+    label: &[u8],
+    list: &[u32],
+    entries: &[u32],
+) -> io::Result<()> {
     state_after(rt, label, list, &[0x1C5], &[], entries)
 }
 
@@ -156,31 +178,44 @@ fn gone_on(rt: &HostRuntime, going: Going) -> io::Result<Progress> {
 }
 
 // The reading goes on by a part.
-fn fed(rt: &HostRuntime, p: Progress,
+fn fed(
+    rt: &HostRuntime,
+    p: Progress,
     cells: &mut [u32],
     fog: &mut [u32],
     light: &mut [u32],
-    part: &[u32],) -> io::Result<Progress> {
+    part: &[u32],
+) -> io::Result<Progress> {
     gone_on(rt, pieces::feed(p, cells, fog, light, part))
 }
 
 // Three parts fed to a reader over states of zeros: both numbers at the close, how many words had come after each part, and the
 // live state's cells of these ids.
-fn in_parts(rt: &HostRuntime, label: &[u8], first: &[u32], second: &[u32], third: &[u32], ids: &[u32]) -> io::Result<()> {
+fn in_parts(
+    rt: &HostRuntime,
+    label: &[u8],
+    first: &[u32],
+    second: &[u32],
+    third: &[u32],
+    ids: &[u32],
+) -> io::Result<()> {
     let mut cells = [0u32; 768];
     let mut fog = [0u32; 128];
     let mut light = [0u32; 6144];
     let mut spare_cells = [0u32; 768];
     let mut spare_fog = [0u32; 128];
     let mut spare_light = [0u32; 6144];
-    let opened = gone_on(rt, pieces::open(
-        &cells,
-        &fog,
-        &light,
-        &mut spare_cells,
-        &mut spare_fog,
-        &mut spare_light,
-    ))?;
+    let opened = gone_on(
+        rt,
+        pieces::open(
+            &cells,
+            &fog,
+            &light,
+            &mut spare_cells,
+            &mut spare_fog,
+            &mut spare_light,
+        ),
+    )?;
     let p = fed(
         rt,
         opened,
@@ -197,7 +232,14 @@ fn in_parts(rt: &HostRuntime, label: &[u8], first: &[u32], second: &[u32], third
         &mut spare_light,
         second,
     )?;
-    let r = fed(rt, q, &mut spare_cells, &mut spare_fog, &mut spare_light, third)?;
+    let r = fed(
+        rt,
+        q,
+        &mut spare_cells,
+        &mut spare_fog,
+        &mut spare_light,
+        third,
+    )?;
     let closed = pieces::close(
         r,
         &mut cells,
@@ -214,7 +256,14 @@ fn in_parts(rt: &HostRuntime, label: &[u8], first: &[u32], second: &[u32], third
 }
 
 // The same of a list that is cut at two places.
-pub(crate) fn cut_twice(rt: &HostRuntime, label: &[u8], list: &[u32], first: usize, second: usize, ids: &[u32]) -> io::Result<()> {
+pub(crate) fn cut_twice(
+    rt: &HostRuntime,
+    label: &[u8],
+    list: &[u32],
+    first: usize,
+    second: usize,
+    ids: &[u32],
+) -> io::Result<()> {
     if list.len() < second {
         return Ok(());
     }
@@ -232,12 +281,21 @@ pub(crate) fn cut_twice(rt: &HostRuntime, label: &[u8], list: &[u32], first: usi
 }
 
 // Both numbers of the second of two lists, which are read one after the other into a state of zeros.
-pub(crate) fn counts_after(rt: &HostRuntime, label: &[u8], before: &[u32], list: &[u32]) -> io::Result<()> {
+pub(crate) fn counts_after(
+    rt: &HostRuntime,
+    label: &[u8],
+    before: &[u32],
+    list: &[u32],
+) -> io::Result<()> {
     let mut cells = [0u32; 768];
     let mut fog = [0u32; 128];
     let mut light = [0u32; 6144];
     reader::read(&mut cells, &mut fog, &mut light, before);
-    put_counts(rt, label, reader::read(&mut cells, &mut fog, &mut light, list))
+    put_counts(
+        rt,
+        label,
+        reader::read(&mut cells, &mut fog, &mut light, list),
+    )
 }
 
 // Both numbers of a list.
@@ -261,7 +319,14 @@ fn put_written(rt: &HostRuntime, label: &[u8], answer: Written) -> io::Result<()
 }
 
 // What a single write tells that is made on a state of zeros after the list was read into it.
-pub(crate) fn written_after(rt: &HostRuntime, label: &[u8], before: &[u32], id: u32, mask: u32, value: u32) -> io::Result<()> {
+pub(crate) fn written_after(
+    rt: &HostRuntime,
+    label: &[u8],
+    before: &[u32],
+    id: u32,
+    mask: u32,
+    value: u32,
+) -> io::Result<()> {
     let mut cells = [0u32; 768];
     let mut fog = [0u32; 128];
     let mut light = [0u32; 6144];
@@ -274,6 +339,12 @@ pub(crate) fn written_after(rt: &HostRuntime, label: &[u8], before: &[u32], id: 
 }
 
 // What a single write tells on a state of zeros.
-pub(crate) fn written(rt: &HostRuntime, label: &[u8], id: u32, mask: u32, value: u32) -> io::Result<()> {
+pub(crate) fn written(
+    rt: &HostRuntime,
+    label: &[u8],
+    id: u32,
+    mask: u32,
+    value: u32,
+) -> io::Result<()> {
     written_after(rt, label, &[], id, mask, value)
 }

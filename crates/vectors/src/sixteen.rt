@@ -1,6 +1,6 @@
 // The sixteen-byte rule, and writes with mask 0: request 3 of document 02.
-use std::io;
 use crate::{four, show};
+use std::io;
 
 // "Lists whose words aren't a multiple of 4 are now refusal 15, place 0, tested after 1 and before any command"
 fn lengths(rt: &HostRuntime) -> io::Result<()> {
@@ -42,7 +42,11 @@ fn limit(rt: &HostRuntime) -> io::Result<()> {
 
 // "Writes with mask 0 are still checked, but no longer belong to an expansion .. the counts of an expansion leave them out"
 fn mask_0(rt: &HostRuntime) -> io::Result<()> {
-    four::counts(rt, b"41, then 42 with mask 0", [1, 0x000F0041, 2, 0x00000042])?;
+    four::counts(
+        rt,
+        b"41, then 42 with mask 0",
+        [1, 0x000F0041, 2, 0x00000042],
+    )?;
     show::counts(
         rt,
         b"41 to 43 with mask 0, then 44",

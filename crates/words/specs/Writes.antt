@@ -1,4 +1,4 @@
--- A single write, and when it is allowed: said twice, as the document does, and law `allowed-fault` has the two agree. A mask above 15
+-- A single write, and when it is allowed: said twice, as the document does, and law `allowed_fault` has the two agree. A mask above 15
 -- can't stand in a header; where it is given as a number, it is refused with 9 before these tests.
 use Rattle.std.specs.Prelude.{Bool, not, ◌&&◌, ◌||◌, List, [], ◌∷◌, map, ℕ, leb, ltb, eqb}
 use Rattle.numbers.specs.Pick.{pick, within}

@@ -1,4 +1,4 @@
--- Each way out is one case of `decodedOf`. Assumes nothing.
+-- Each way out is one case of `decoded_of`. Assumes nothing.
 use mathlib.Core.Path.{ap, sym, ◌∙◌}
 use Rattle.registers.specs.State.{st}
 use Rattle.registers.proofs.Sizes.{lengths}

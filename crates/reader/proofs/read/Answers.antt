@@ -5,14 +5,14 @@ use Rattle.registers.specs.State.{st}
 use Rattle.registers.proofs.Sizes.{lengths}
 use Rattle.reader.specs.Read.{told}
 use Rattle.reader.proofs.Accepted.{verdict_accepted}
-use Rattle.reader.proofs.Answers.{wrong-lengths, too_long, list_refused, list-accepted}
+use Rattle.reader.proofs.Answers.{wrong_lengths, too_long, list_refused, list_accepted}
 use Rattle.reader.proofs.read.Goals as goal
 
 pub returns-then-not-is_sized : goal.returns-then-not-is_sized
 returns-then-not-is_sized c =
     let a = c.args in
     let s = st a.cells.now a.fog.now a.light.now in
-    let r = wrong-lengths s a.list.now (sym c.is_sized.ensures ∙ c.if-not-is_sized.true) in
+    let r = wrong_lengths s a.list.now (sym c.is_sized.ensures ∙ c.if-not-is_sized.true) in
     record { answer = r.answers; state = r.state }
 
 pub returns-then-list-gt65536 : goal.returns-then-list-gt65536
@@ -47,7 +47,7 @@ returns-in-Accepted c =
     let s = st a.cells.now a.fog.now a.light.now in
     let k = sym c.is_sized.ensures ∙ c.if-not-is_sized.false in
     let v = sym c.judge_list.ensures ∙ ap told c.in-Accepted.is in
-    let r = list-accepted s a.list.now k c.if-list-gt65536.false _ v in
+    let r = list_accepted s a.list.now k c.if-list-gt65536.false _ v in
     let n = c.in-Accepted.writes in
     let e = c.apply_list-differences.ensures in
     record { answer = ap (both n) e.count ∙ r.answers; state = e.state ∙ r.state }

@@ -1,4 +1,4 @@
--- Each way out is one case of `writeAnswer` and `writeState`. Assumes nothing.
+-- Each way out is one case of `write_answer` and `write_state`. Assumes nothing.
 use mathlib.Core.Path.{sym, ap, ◌∙◌}
 use native.Mathlib.Omega.{arith}
 use Rattle.numbers.specs.Answer.{answered}

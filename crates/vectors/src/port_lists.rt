@@ -1,6 +1,6 @@
 // The two ports: document 004, "GPUREG_FOG_LUT_DATAi" and "GPUREG_LIGHTING_LUT_DATAi", and document 01, "Ports".
-use std::io;
 use crate::{four, show};
+use std::io;
 
 fn fog(rt: &HostRuntime) -> io::Result<()> {
     // 004: "Each write to these registers writes the provided value to the fog look-up table, starting at the index
@@ -52,10 +52,25 @@ fn light(rt: &HostRuntime) -> io::Result<()> {
         &[0x1FF, 0x100, 0x200],
     )?;
     // 004: "16-23 DA0-7"; the last table with a name
-    four::light_after(rt, b"light, DA7", [0x17FF, 0x000F01C5, 7, 0x000F01CF], 0x17FF)?;
+    four::light_after(
+        rt,
+        b"light, DA7",
+        [0x17FF, 0x000F01C5, 7, 0x000F01CF],
+        0x17FF,
+    )?;
     // 01: "Tables 2, 7 and 18h-1Fh aren't named in 000: their entries never change, but the index rises"
-    four::light_after(rt, b"light, table 2", [0x200, 0x000F01C5, 7, 0x000F01C8], 0x200)?;
-    four::light_after(rt, b"light, table 7", [0x7FF, 0x000F01C5, 7, 0x000F01C8], 0x7FF)?;
+    four::light_after(
+        rt,
+        b"light, table 2",
+        [0x200, 0x000F01C5, 7, 0x000F01C8],
+        0x200,
+    )?;
+    four::light_after(
+        rt,
+        b"light, table 7",
+        [0x7FF, 0x000F01C5, 7, 0x000F01C8],
+        0x7FF,
+    )?;
     show::light_after(
         rt,
         b"light, table 1f",
@@ -68,7 +83,12 @@ fn light(rt: &HostRuntime) -> io::Result<()> {
 fn masked(rt: &HostRuntime) -> io::Result<()> {
     show::fog_after(rt, b"fog, mask e", &[5, 0x000F00E6, 1, 0x000E00E8], &[0, 5])?;
     show::fog_after(rt, b"fog, mask 0", &[5, 0x000F00E6, 1, 0x000000EF], &[0, 5])?;
-    show::light_after(rt, b"light, mask 7", &[5, 0x000F01C5, 1, 0x000701C8], &[0, 5])
+    show::light_after(
+        rt,
+        b"light, mask 7",
+        &[5, 0x000F01C5, 1, 0x000701C8],
+        &[0, 5],
+    )
 }
 
 pub(crate) fn all(rt: &HostRuntime) -> io::Result<()> {

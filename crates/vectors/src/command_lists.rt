@@ -1,6 +1,6 @@
 // Commands and their expansion: document 004, "Overview" and "Command Header", and document 01, "A command".
-use std::io;
 use crate::{four, show};
+use std::io;
 
 // 004: "If consecutive writing mode is enabled in the command header, the current command index will be incremented after
 // each parameter write."
