@@ -25,7 +25,7 @@ use Rattle.registers.specs.Single.{refusal_of, write_answer}
 use Rattle.reader.specs.ListVerdict.{first_fault, command_fault, judge, judged, verdict}
 use Rattle.reader.specs.Read.{read_answer}
 use Rattle.reader.proofs.Accepted.{verdict_accepted}
-use Rattle.parts.specs.Progress.{fresh, after, counted, between, fault_number, closing}
+use Rattle.parts.specs.Progress.{fresh, after, between, fault_number, closing}
 use Rattle.pieces.specs.Pieces.{wrong_length, both_sized, opening, fed, feeding, close_answer}
 use Rattle.pieces.specs.Pieces as pieces
 use Rattle.parts.specs.declared.Progress.{Progress}
