@@ -1,6 +1,6 @@
 -- THE OTHER WAY ROUND, from the contracts alone: where no row of the table holds, a call answers, and so what it answers is said for all
 -- inputs. Of a list that is read, of its writes and of a run that is packed this is in EndToEnd.antt and Between.antt. Assumes nothing.
-use mathlib.Core.Path.{◌≡◌, refl, sym, ap, ◌∙◌}
+use mathlib.Core.Path.{◌≡◌, sym, ap, ◌∙◌}
 use mathlib.Core.Bool.{Bool, true, false, false≢true}
 use mathlib.Core.Logic.{inl, inr, ⊎_elim}
 use Prim.Native.Nat.{ℕ, ◌≤◌}

@@ -2,7 +2,7 @@
 use mathlib.Core.Path.{◌≡◌, refl, sym, ap, ◌∙◌}
 use Prim.Native.Nat.{ℕ}
 use native.Mathlib.Omega.{arith}
-use Rattle.numbers.specs.Answer.{Answer, answered, refused, Answers, both, neither, besides, alone}
+use Rattle.numbers.specs.Answer.{Answer, answered, refused, both, neither, besides, alone}
 use Rattle.pica.specs.Calls.{answer, answers}
 
 pub alone_besides : (a : Answer) (d : ℕ) → alone (besides a d) ≡ a

@@ -2,7 +2,7 @@
 -- those of a lent buffer are.
 use mathlib.Core.Path.{◌≡◌, refl, sym, ap, ◌∙◌}
 use mathlib.Core.Bool.{Bool, true, false, not, false≢true}
-use mathlib.Core.List.{List, [], ◌∷◌, ◌++◌}
+use mathlib.Core.List.{List, ◌∷◌, ◌++◌}
 use Prim.Native.Nat.{ℕ, ◌/◌, ◌^◌, ◌≤◌, ◌<◌}
 use native.Mathlib.Omega.{arith}
 use lib.Bits.{bit_and, and_le_r}
@@ -16,7 +16,7 @@ use Rattle.words.specs.Writes.{Write, fog_data, light_data, port_data}
 use Rattle.words.specs.Commands.{expansion}
 use Rattle.registers.specs.Held.{bits_of}
 use Rattle.registers.specs.State.{State, sized}
-use Rattle.registers.specs.Applied.{apply, differs, difference, differences}
+use Rattle.registers.specs.Applied.{differs, difference, differences}
 use Rattle.registers.specs.Single.{refusal_of, write_answer}
 use Rattle.registers.specs.declared.Written.{Written}
 use Rattle.registers.specs.declared.Written.TheVariants as written
@@ -32,7 +32,7 @@ use Rattle.reader.specs.declared.Reading.{Reading}
 use Rattle.reader.specs.declared.Reading.TheVariants as reading
 use Rattle.reader.proofs.Once.{both_one}
 use Rattle.pieces.specs.Pieces.{close_answer, close_answers}
-use Rattle.pica.specs.Calls.{call, answers, differences_after}
+use Rattle.pica.specs.Calls.{answers, differences_after}
 use Rattle.pica.specs.Readers.{progress_of}
 use Rattle.demands.proofs.Alike.{Alike}
 use Rattle.demands.proofs.Taken.{Words}

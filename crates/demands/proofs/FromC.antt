@@ -19,7 +19,7 @@ use Rattle.registers.specs.Applied.{differences}
 use Rattle.words.specs.Commands.{expansion}
 use Rattle.registers.specs.Single.{write_answer}
 use Rattle.reader.specs.Read.{read_answer, read_answers}
-use Rattle.parts.specs.Progress.{fresh, between, fault_number, closing}
+use Rattle.parts.specs.Progress.{fresh, between, closing}
 use Rattle.pieces.specs.Pieces.{wrong_length, both_sized, opening, fed, feeding, close_answer, close_answers}
 use Rattle.pieces.specs.Pieces as pieces
 use Rattle.parts.specs.declared.Progress.{Progress}

@@ -3,19 +3,18 @@
 use mathlib.Core.Path.{◌≡◌, refl, sym, ap, ◌∙◌}
 use mathlib.Core.Bool.{true, false}
 use mathlib.Core.List.{List, [], ◌++◌}
-use Prim.Native.Nat.{ℕ, ◌+◌, ◌%◌, ◌≤◌, ◌<◌}
+use Prim.Native.Nat.{ℕ, ◌%◌, ◌≤◌, ◌<◌}
 use native.Mathlib.Omega.{arith}
-use lib.Dec.{eqb}
-use lib.ListN.{length, take, drop, length-append}
+use lib.ListN.{length, take}
 use borrow.Author.Tests.{le-leb, lt-leb, eqb-false}
-use Rattle.numbers.specs.Answer.{refused, answered}
+use Rattle.numbers.specs.Answer.{refused}
 use Rattle.numbers.proofs.Room.{lengths_level}
 use Rattle.words.specs.Writes.{Write, kept}
 use Rattle.words.specs.Commands.{legal}
 use Rattle.registers.specs.State.{State, sized}
 use Rattle.registers.specs.Applied.{apply_all, differences}
 use Rattle.reader.specs.ListVerdict.{verdict}
-use Rattle.reader.specs.Read.{read_answer, read_answers, read_state}
+use Rattle.reader.specs.Read.{read_answer, read_answers}
 use Rattle.reader.specs.declared.ListVerdict.{ListVerdict}
 use Rattle.reader.specs.declared.ListVerdict.TheVariants as list-verdict
 use Rattle.reader.specs.declared.Reading.{Reading}

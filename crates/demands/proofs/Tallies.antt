@@ -5,7 +5,6 @@ use mathlib.Core.List.{List, [], ◌∷◌, ◌++◌}
 use Prim.Native.Nat.{ℕ}
 use lib.Dec.{eqb, ltb}
 use Rattle.numbers.specs.Pick.{pick}
-use Rattle.numbers.specs.Answer.{Answer}
 use Rattle.words.specs.Writes.{Write}
 use Rattle.parts.specs.Progress.{past, extra, padding, headed, started, passed, next, makes, after, made, tallied, closing}
 use Rattle.parts.specs.declared.Progress.{Progress}

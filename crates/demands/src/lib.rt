@@ -1,1 +1,3 @@
+#![tactic(auto)]
+
 // The demands on the library as theorems: proofs/. No function.

@@ -23,5 +23,5 @@ fn main(rt: HostRuntime) -> io::Result<()> {
     packing::all(&rt)?;
     cuttings::all(&rt)?;
     differences::all(&rt)?;
-    sixteen::all(&rt)?;
+    sixteen::all(&rt)
 }
