@@ -7,8 +7,8 @@
  *
  *     cc replayer.c $(pkg-config --cflags --libs pica)
  *
- * compiles and links with it; without, name the folder of this header with -I, and libpica.a as an input. It is for Linux, and for
- * the processor that it was built for: x86-64 from `rt staticlib pica`, that of the machine at hand from `install`.
+ * compiles and links with it; without, name the folder of this header with -I, and libpica.a as an input. It is for x86-64 Linux,
+ * and for processors of level x86-64-v2 or above.
  *
  * ANSWERS. Each function answers one 64-bit number. Its high 32 bits are 0 where the call was answered, else the number of the
  * refusal; its low 32 bits are the answer, or the refusal's place. pica_number() and pica_value() take it apart. A place that is

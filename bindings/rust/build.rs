@@ -17,7 +17,7 @@ fn main() {
         let what_to_do = if named.is_some() {
             "PICA_LIB_DIR must name the folder that holds it"
         } else {
-            "run `rt staticlib pica` in the repository's root, or set PICA_LIB_DIR to the folder that holds it"
+            "run `tests/native` in the repository's root, or set PICA_LIB_DIR to the folder that holds it"
         };
         println!(
             "cargo:warning=there is no {}: {what_to_do}",
@@ -25,8 +25,8 @@ fn main() {
         );
     } else if named.is_none() && !env::var("TARGET").is_ok_and(|t| t.starts_with("x86_64-")) {
         println!(
-            "cargo:warning={} is for x86-64 Linux: for this machine run `tests/native` in the repository's root, and set \
-             PICA_LIB_DIR to its folder target/native",
+            "cargo:warning={} is for x86-64 Linux, for which alone it is built: for another machine set PICA_LIB_DIR to a folder \
+             that holds one",
             archive.display()
         );
     }

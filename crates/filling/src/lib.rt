@@ -64,7 +64,8 @@ fn keep(
     while 0 < i {
         i -= 1;
         let mask = masks[i];
-        if mask == 0 {
+        let unmasked = mask == 0;
+        if unmasked {
             continue;
         }
         at -= 1;

@@ -28,7 +28,8 @@ fn put_decimal(line: &mut [u8], at: usize, n: usize) -> usize
     ensures { (result ≡ at + length (decimal n)) × (line.new ≡ over line.old at (decimal n)) }
 {
     let last = b'0' + (n % 10) as u8;
-    if n < 10 {
+    let one_digit = n < 10;
+    if one_digit {
         line[at] = last;
         return at + 1;
     }

@@ -16,7 +16,8 @@ use words::Refusal;
 fn wrong_with(id: u32, mask: u32) -> u32
     ensures { result ≡ wrong id mask }
 {
-    if 15 < mask {
+    let too_wide = 15 < mask;
+    if too_wide {
         return words::MASK_ABOVE_15;
     }
     words::fault(id, mask)

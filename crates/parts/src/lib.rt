@@ -71,7 +71,8 @@ fn put_sound(
     if fault != 0 {
         return 0;
     }
-    if mask == 0 {
+    let unmasked = mask == 0;
+    if unmasked {
         return 0;
     }
     let bytes = ports::spread_mask(mask);

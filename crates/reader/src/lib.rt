@@ -125,7 +125,8 @@ pub fn read(cells: &mut [u32], fog: &mut [u32], light: &mut [u32], list: &[u32])
             place: 0,
         });
     }
-    if 65536 < list.len() {
+    let too_long = 65536 < list.len();
+    if too_long {
         return Reading::Refused(Refusal {
             number: words::LIST_TOO_LONG,
             place: 0,

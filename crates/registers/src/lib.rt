@@ -123,7 +123,8 @@ pub fn write(
             place: 0,
         });
     }
-    if 15 < mask {
+    let too_wide = 15 < mask;
+    if too_wide {
         return Written::Refused(Refusal {
             number: words::MASK_ABOVE_15,
             place: 0,

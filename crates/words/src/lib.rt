@@ -122,6 +122,7 @@ pub fn refusal_in(head: Head) -> Refusal
 }
 
 // The number of the fault of a write to `id` under `mask`, 0 where it is allowed.
+#[tactic(auto, unfolding(crate::specs::Writes::fault_of))]
 pub fn fault(id: u32, mask: u32) -> u32
     ensures { result ≡ fault_of id mask }
 {

@@ -135,7 +135,8 @@ fn put_list(list: &[u32], ids: &mut [u32], masks: &mut [u32], values: &mut [u32]
     while at < list.len() {
         let h = words::parts(list[at + 1]);
         let taken = words::words_taken(h);
-        if h.mask == 0 {
+        let unmasked = h.mask == 0;
+        if unmasked {
             at += taken;
             continue;
         }

@@ -14,15 +14,15 @@ loop-i-init c =
     let k = keeps_none a.ids.now a.masks.now a.values.now p.0 p.1 _ _ _ _ _ refl refl p.3 p.4 in
     (z, p.2, k, refl, refl, refl)
 
-pub loop-i-preserved-then-mask-eq0 : goal.loop-i-preserved-then-mask-eq0
-loop-i-preserved-then-mask-eq0 c =
+pub loop-i-preserved-then-unmasked : goal.loop-i-preserved-then-unmasked
+loop-i-preserved-then-unmasked c =
     let a = c.args in
     let b = c.requires in
     let o = c.loop-i in
     let next = keeps_dropped a.ids.now a.masks.now a.values.now b.0 b.1 _ _ _ o.i (o.i - 1) in (
       omega arith,
       omega arith,
-      next (omega arith) (omega arith) _ c.if-mask-eq0.true o.invariant.2,
+      next (omega arith) (omega arith) _ c.if-unmasked.true o.invariant.2,
       o.invariant.3,
       o.invariant.4,
       o.invariant.5,
@@ -45,7 +45,7 @@ loop-i-preserved c =
     let next = keeps_more a.ids.now a.masks.now a.values.now b.0 b.1 _ _ _ o.i (o.i - 1) in (
       omega arith,
       omega arith,
-      next (omega arith) (omega arith) o.at (o.at - 1) (omega arith) c.if-mask-eq0.false o.invariant.2,
+      next (omega arith) (omega arith) o.at (o.at - 1) (omega arith) c.if-unmasked.false o.invariant.2,
       length-set o.kept_ids _ _ ∙ o.invariant.3,
       length-set o.kept_masks _ _ ∙ o.invariant.4,
       length-set o.kept_values _ _ ∙ o.invariant.5,

@@ -9,13 +9,13 @@ pub returns-then-fault-ne0 : goal.returns-then-fault-ne0
 returns-then-fault-ne0 c =
     record { difference = counts_none _ _ _ c.if-fault-ne0.true; state = sound_none _ _ _ c.if-fault-ne0.true }
 
-pub returns-then-mask-eq0 : goal.returns-then-mask-eq0
-returns-then-mask-eq0 c =
+pub returns-then-unmasked : goal.returns-then-unmasked
+returns-then-unmasked c =
     let a = c.args in
     let s = st a.cells.now a.fog.now a.light.now in
     let w = writing a.id a.mask a.value in
     let f = c.if-fault-ne0.false in
-    record { difference = counts_dropped s a.fault w f c.if-mask-eq0.true; state = sound_dropped s a.fault w f c.if-mask-eq0.true }
+    record { difference = counts_dropped s a.fault w f c.if-unmasked.true; state = sound_dropped s a.fault w f c.if-unmasked.true }
 
 pub returns : goal.returns
 returns c =
@@ -24,4 +24,4 @@ returns c =
     let w = writing a.id a.mask a.value in
     let e = c.put_one.ensures in
     let b = c.spread_mask-bytes.ensures in
-    record { difference = omega (arith, rw b at e.count.0, counts_one s a.fault w c.if-fault-ne0.false c.if-mask-eq0.false); state = rw b at e.state ∙ sound_one s a.fault w c.if-fault-ne0.false c.if-mask-eq0.false }
+    record { difference = omega (arith, rw b at e.count.0, counts_one s a.fault w c.if-fault-ne0.false c.if-unmasked.false); state = rw b at e.state ∙ sound_one s a.fault w c.if-fault-ne0.false c.if-unmasked.false }

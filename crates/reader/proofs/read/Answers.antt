@@ -15,12 +15,12 @@ returns-then-not-is_sized c =
     let r = wrong_lengths s a.list.now (sym c.is_sized.ensures ∙ c.if-not-is_sized.true) in
     record { answer = r.answers; state = r.state }
 
-pub returns-then-list-gt65536 : goal.returns-then-list-gt65536
-returns-then-list-gt65536 c =
+pub returns-then-too_long : goal.returns-then-too_long
+returns-then-too_long c =
     let a = c.args in
     let s = st a.cells.now a.fog.now a.light.now in
     let k = sym c.is_sized.ensures ∙ c.if-not-is_sized.false in
-    let r = too_long s a.list.now k c.if-list-gt65536.true in
+    let r = too_long s a.list.now k c.if-too_long.true in
     record { answer = r.answers; state = r.state }
 
 pub apply_list-differences-requires : goal.apply_list-differences-requires
@@ -30,7 +30,7 @@ apply_list-differences-requires c =
     let k = lengths s (sym c.is_sized.ensures ∙ c.if-not-is_sized.false) in
     let v = sym c.judge_list.ensures ∙ ap told c.in-Accepted.is in
     let w = verdict_accepted a.list.now _ v in
-    record { lengths = (k, c.if-list-gt65536.false); list_value = (w.0, w.1) }
+    record { lengths = (k, c.if-too_long.false); list_value = (w.0, w.1) }
 
 pub returns-in-Refused : goal.returns-in-Refused
 returns-in-Refused c =
@@ -38,7 +38,7 @@ returns-in-Refused c =
     let s = st a.cells.now a.fog.now a.light.now in
     let k = sym c.is_sized.ensures ∙ c.if-not-is_sized.false in
     let v = sym c.judge_list.ensures ∙ ap told c.in-Refused.is in
-    let r = list_refused s a.list.now k c.if-list-gt65536.false _ _ v in
+    let r = list_refused s a.list.now k c.if-too_long.false _ _ v in
     record { answer = r.answers; state = r.state }
 
 pub returns-in-Accepted : goal.returns-in-Accepted
@@ -47,7 +47,7 @@ returns-in-Accepted c =
     let s = st a.cells.now a.fog.now a.light.now in
     let k = sym c.is_sized.ensures ∙ c.if-not-is_sized.false in
     let v = sym c.judge_list.ensures ∙ ap told c.in-Accepted.is in
-    let r = list_accepted s a.list.now k c.if-list-gt65536.false _ v in
+    let r = list_accepted s a.list.now k c.if-too_long.false _ v in
     let n = c.in-Accepted.writes in
     let e = c.apply_list-differences.ensures in
     record { answer = ap (both n) e.count ∙ r.answers; state = e.state ∙ r.state }

@@ -16,13 +16,13 @@ returns-then-not-is_sized c =
     let both = write_refused s w 6 (λ z. omega arith) (length_refusal_law s w (sym c.is_sized.ensures ∙ c.if-not-is_sized.true)) in
     record { answer = both.0; state = both.1 }
 
-pub returns-then-mask-gt15 : goal.returns-then-mask-gt15
-returns-then-mask-gt15 c =
+pub returns-then-too_wide : goal.returns-then-too_wide
+returns-then-too_wide c =
     let a = c.args in
     let s = st a.cells.now a.fog.now a.light.now in
     let w = writing a.id a.mask a.value in
     let k = sym c.is_sized.ensures ∙ c.if-not-is_sized.false in
-    let both = write_refused s w 9 (λ z. omega arith) (mask_refusal s w k c.if-mask-gt15.true) in
+    let both = write_refused s w 9 (λ z. omega arith) (mask_refusal s w k c.if-too_wide.true) in
     record { answer = both.0; state = both.1 }
 
 pub returns-then-why-ne0 : goal.returns-then-why-ne0
@@ -31,7 +31,7 @@ returns-then-why-ne0 c =
     let s = st a.cells.now a.fog.now a.light.now in
     let w = writing a.id a.mask a.value in
     let k = sym c.is_sized.ensures ∙ c.if-not-is_sized.false in
-    let both = write_refused s w _ c.if-why-ne0.true (fault_refusal s w k c.if-mask-gt15.false ∙ sym c.fault-why.ensures) in
+    let both = write_refused s w _ c.if-why-ne0.true (fault_refusal s w k c.if-too_wide.false ∙ sym c.fault-why.ensures) in
     record { answer = both.0; state = both.1 }
 
 pub put_one-difference-requires : goal.put_one-difference-requires
@@ -47,6 +47,6 @@ returns c =
     let s = st a.cells.now a.fog.now a.light.now in
     let w = writing a.id a.mask a.value in
     let k = sym c.is_sized.ensures ∙ c.if-not-is_sized.false in
-    let d = write_done s w (fault_refusal s w k c.if-mask-gt15.false ∙ sym c.fault-why.ensures ∙ c.if-why-ne0.false) in
+    let d = write_done s w (fault_refusal s w k c.if-too_wide.false ∙ sym c.fault-why.ensures ∙ c.if-why-ne0.false) in
     let p = rw c.spread_mask-bytes.ensures at c.put_one-difference.ensures in
     record { answer = ap answered (difference_told s w _ (p.count.0 ∙ omega arith)) ∙ d.0; state = p.state ∙ d.1 }

@@ -27,8 +27,8 @@ bounds-list-at c =
     omega (arith, (full_next c.args.list.now o.at c.loop-at-test.true o.invariant.0).0)
 
 -- a command of mask 0
-pub loop-at-preserved-then-h-eq0 : goal.loop-at-preserved-then-h-eq0
-loop-at-preserved-then-h-eq0 c =
+pub loop-at-preserved-then-unmasked : goal.loop-at-preserved-then-unmasked
+loop-at-preserved-then-unmasked c =
     let a = c.args in
     let l = a.list.now in
     let o = c.loop-at in
@@ -37,7 +37,7 @@ loop-at-preserved-then-h-eq0 c =
     let w = c.words_taken-taken.ensures in
     let n = full_next l o.at t o.invariant.0 in
     let s = stands_dropped l a.ids.now a.masks.now a.values.now o.at o.k _ _ _ o.invariant.4 t
-    (sym p.1 ∙ c.if-h-eq0.true) in
+    (sym p.1 ∙ c.if-unmasked.true) in
     (rw (w, p.2) n.1, o.invariant.1, o.invariant.2, o.invariant.3, rw (w, p.2) s)
 
 pub put_command-requires : goal.put_command-requires
@@ -45,7 +45,7 @@ put_command-requires c =
     let a = c.args in
     let o = c.loop-at in
     let t = c.loop-at-test.true in
-    let m = some c.parts-h.ensures.1 c.if-h-eq0.false in
+    let m = some c.parts-h.ensures.1 c.if-unmasked.false in
     let w = next_within a.list.now a.ids.now a.masks.now a.values.now o.at o.k _ _ _ o.invariant.4 t m in
     record { command_fits = ((full_next a.list.now o.at t o.invariant.0).0, omega (arith, w, c.requires.list_in_bounds.0, o.invariant.1)); ids_len = (omega (arith, c.requires.list_in_bounds.1, o.invariant.1, o.invariant.2), omega (arith, c.requires.list_in_bounds.2, o.invariant.1, o.invariant.3)) }
 
@@ -55,7 +55,7 @@ overflow_add-k-in-loop-at c =
     let o = c.loop-at in
     let t = c.loop-at-test.true in
     let p = c.parts-h.ensures in
-    let m = some p.1 c.if-h-eq0.false in
+    let m = some p.1 c.if-unmasked.false in
     let w = next_within a.list.now a.ids.now a.masks.now a.values.now o.at o.k _ _ _ o.invariant.4 t m in
     omega (arith, p.2, w, c.requires.list_in_bounds.0, c.well_formed)
 
@@ -70,7 +70,7 @@ loop-at-preserved c =
     let w = c.words_taken-taken.ensures in
     let q = c.put_command in
     let n = full_next l o.at t o.invariant.0 in
-    let m = some p.1 c.if-h-eq0.false in
+    let m = some p.1 c.if-unmasked.false in
     let s = stands_next l a.ids.now a.masks.now a.values.now o.at o.k _ _ _ o.invariant.4 t m _ _ _ q.ensures.ids
     q.ensures.masks q.ensures.values in
     (rw (w, p.2) n.1, omega (arith, o.invariant.1, q.auto), omega arith, omega arith, rw (w, p.2) s)

@@ -10,16 +10,16 @@ use Rattle.words.specs.Commands.{header_at, expand}
 use Rattle.commands.proofs.Runs.{param_later}
 use Rattle.writes.proofs.Rows.{Put, id_first, id_next, put_none, put_next, put_over, put_back}
 use Rattle.writes.proofs.put_short.Goals as goal
-use Rattle.writes.proofs.put_short.Goals.{After-shared_slice_known-3-1}
+use Rattle.writes.proofs.put_short.Goals.{After-parts-h}
 
 -- the buffers with the first write, which stands there before the loop
-abbrev first_stands : After-shared_slice_known-3-1 → List ℕ × List ℕ × List ℕ
+abbrev first_stands : After-parts-h → List ℕ × List ℕ × List ℕ
 first_stands c =
     let a = c.args in
     let p = c.parts-h.result in
     (set a.ids.now a.k p.id, set a.masks.now a.k p.mask, set a.values.now a.k (get_or a.list.now a.at 0))
 
-first : (c : After-shared_slice_known-3-1)
+first : (c : After-parts-h)
     → let a = c.args in
     let s = first_stands c in
     Put a.list.now a.at a.k 1 a.ids.now a.masks.now a.values.now s.0 s.1 s.2
@@ -32,7 +32,7 @@ first c =
     a.masks.now a.values.now 0 a.k 1 _ _ _ (omega arith) (omega arith) (omega arith) (p.0 ∙ id_first l a.at) p.1 refl
     (put_none l a.at a.k a.ids.now a.masks.now a.values.now)
 
-long : (c : After-shared_slice_known-3-1)
+long : (c : After-parts-h)
     → let a = c.args in
     let s = first_stands c in
     (length s.0 ≡ length a.ids.now) × (length s.1 ≡ length a.masks.now) × (length s.2 ≡ length a.values.now)
@@ -50,8 +50,8 @@ loop-m-init c =
       refl,
       refl,
       refl,
-      put_back l a.at a.k a.ids.now a.masks.now a.values.now b.command_fits.1 b.ids_len _ _ _ (first (goal.at.loop-m-init c).After-shared_slice_known-3-1) 1
-          (omega arith) (omega arith) _ _ _ (first (goal.at.loop-m-init c).After-shared_slice_known-3-1),
+      put_back l a.at a.k a.ids.now a.masks.now a.values.now b.command_fits.1 b.ids_len _ _ _ (first (goal.at.loop-m-init c).After-parts-h) 1
+          (omega arith) (omega arith) _ _ _ (first (goal.at.loop-m-init c).After-parts-h),
     )
 
 pub bounds-ids-k-in-loop-m : goal.bounds-ids-k-in-loop-m
@@ -98,8 +98,8 @@ loop-m-preserved c =
     let next = id_next l a.at o.m o.id q o.invariant.1 in
     let e : o.id + c.parts-h.result.step ≡ get_or (ids_in (expand l a.at)) (o.m + 1) 0 =
     ap (λ (x : ℕ). o.id + x) p.3 ∙ next in
-    let n = long (goal.at.loop-m-preserved c).After-shared_slice_known-3-1 in
-    let s = first_stands (goal.at.loop-m-preserved c).After-shared_slice_known-3-1 in
+    let n = long (goal.at.loop-m-preserved c).After-parts-h in
+    let s = first_stands (goal.at.loop-m-preserved c).After-parts-h in
     let room : a.k + (count_of (header_at l a.at) + 1) ≤ length s.0 = omega (arith, b.command_fits.1, n.0) in
     let level : (length s.0 ≡ length s.1) × (length s.0 ≡ length s.2) =
     (omega (arith, b.ids_len.0, n.0, n.1), omega (arith, b.ids_len.1, n.0, n.2)) in (
@@ -134,7 +134,7 @@ returns c =
     let p = c.parts-h.ensures in
     let z : o.m + 1 ≡ count_of (header_at l a.at) + 1 = omega (arith, o.invariant.0, c.loop-m-test.false, p.2) in
     let P = put_over l a.at a.k a.ids.now a.masks.now a.values.now b.command_fits.1 b.ids_len _ _ _
-    (first (goal.at.returns c).After-shared_slice_known-3-1) (o.m + 1) (omega arith) (omega arith) o.ids o.masks o.values o.invariant.6 in
+    (first (goal.at.returns c).After-parts-h) (o.m + 1) (omega arith) (omega arith) o.ids o.masks o.values o.invariant.6 in
     record {
       ids = rw z at P.ids;
       masks = rw z at P.masks;

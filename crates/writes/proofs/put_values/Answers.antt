@@ -10,10 +10,10 @@ use Rattle.words.specs.Commands.{header_at, expand}
 use Rattle.commands.proofs.Runs.{param_later}
 use Rattle.writes.proofs.Rows.{value_at, row_next, row_over}
 use Rattle.writes.proofs.put_values.Goals as goal
-use Rattle.writes.proofs.put_values.Goals.{After-shared_slice_known-3-1}
+use Rattle.writes.proofs.put_values.Goals.{After-parts-h}
 
 -- the first value stands before the loop
-first : (c : After-shared_slice_known-3-1)
+first : (c : After-parts-h)
     → let a = c.args in
     set a.values.now a.k (get_or a.list.now a.at 0)
     ≡ paste a.values.now a.k (values_in (expand a.list.now a.at)) 1
@@ -26,7 +26,7 @@ first c =
 pub loop-j-init : goal.loop-j-init
 loop-j-init c =
     let a = c.args in
-    let f = first (goal.at.loop-j-init c).After-shared_slice_known-3-1 in (
+    let f = first (goal.at.loop-j-init c).After-parts-h in (
       omega arith,
       omega arith,
       refl,
@@ -77,5 +77,5 @@ returns c =
     let p = c.parts-h.ensures in
     let z : o.j ≡ count_of (header_at l a.at) + 1 = omega (arith, o.invariant.1, c.loop-j-test.false, p.2) in
     let e = o.invariant.3 ∙ row_over l a.at (λ (w : Write). w.value) a.values.now a.k c.requires.1 _ o.j
-    (first (goal.at.returns c).After-shared_slice_known-3-1) o.invariant.0 (omega arith) in
+    (first (goal.at.returns c).After-parts-h) o.invariant.0 (omega arith) in
     rw z at e
