@@ -90,7 +90,8 @@ same_buffer : (ws : List ℕ) (k : ℕ) → set (set ws 14 k) 13 (get_or ws 13 0
 same_buffer ws k = rw (get_or-set_other ws 14 13 k 0 (λ e. omega arith)) at (set-get_or (set ws 14 k) 13 0)
 
 -- the same after a stage that has no bit of E0: the buffer stays
-pub step_table_0 : (ws : List ℕ) (s : Stage) (k result : ℕ) → colour_of k ≡ s.colour → colour_of result ≡ from_table s (colours (set ws 14 k))
+pub step_table_0 : (ws : List ℕ) (s : Stage) (k result : ℕ) → colour_of k ≡ s.colour → colour_of result ≡ from_table s
+    (colours (set ws 14 k))
     → colours (set (set ws 14 k) 15 result) ≡ table_after s 0 0 (colours ws)
 unfolding colour_of
 step_table_0 ws s k result ek er = rw (same_buffer ws k) at (step_table ws s k 0 0 (get_or ws 13 0) result ek refl er)

@@ -43,7 +43,8 @@ module _ (f : ℕ → ℕ → ℕ → ℕ) (to from : List ℕ) where
   taking_done (suc n) j h l = rw (taking_suc n) (go (dec_lt j n) (λ k. taking_done n j k l))
     where
       go : Dec (j < n) → (j < n → get_or (taking f n to from) j 0 ≡ f j (get_or to j 0) (get_or from j 0))
-          → get_or (set (taking f n to from) n (f n (get_or (taking f n to from) n 0) (get_or from n 0))) j 0 ≡ f j (get_or to j 0) (get_or from j 0)
+          → get_or (set (taking f n to from) n (f n (get_or (taking f n to from) n 0) (get_or from n 0))) j 0 ≡ f j (get_or to j 0)
+          (get_or from j 0)
       go (yes k) before =
           let t = taking f n to from in
           get_or-set_other t n j (f n (get_or t n 0) (get_or from n 0)) 0 (λ e. omega arith) ∙ before k

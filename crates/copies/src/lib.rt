@@ -66,7 +66,7 @@ pub fn take_state(
     from_light: &[u32],
 )
     requires lengths { Lengths cells.old fog.old light.old }
-    requires lengths_2 { Lengths from_cells.now from_fog.now from_light.now }
+    requires from_lengths { Lengths from_cells.now from_fog.now from_light.now }
     ensures { st cells.new fog.new light.new
         ≡ taken (st cells.old fog.old light.old)
         (st from_cells.now from_fog.now from_light.now) }

@@ -30,8 +30,9 @@ use Rattle.fragment.specs.Drawn.{outcome_of, unbuilt_id, largest, drawn_with, dr
 use Rattle.demands.specs.Cases.{Case, cases}
 
 pub examples : map (λ (c : Case). c.got) cases ≡ map (λ (c : Case). c.want) cases
-unfolding cases kept fault_of run places commands join all_writes expansion held bits_in bits_of fog_cells fog_entries cells_after put apply_all
-    first_fault judge judged verdict read_answer first_words line_of digits decimal signed settings_in table sizes_from chain span packed filled
+unfolding cases kept fault_of run places commands join all_writes expansion held bits_in bits_of fog_cells fog_entries cells_after
+    put apply_all first_fault judge judged verdict read_answer first_words line_of digits decimal signed settings_in table sizes_from
+    chain span packed filled
     first_wrong check_answer pack_answer stage_checks frame_checks checks first_of decoded_of combined centred at_least_zero dot3_of
     alpha_mixed stage_of result_of seen_after combiner_of results verdict_of stencil_after depth_after colour_after judged_of
     outcome_of unbuilt_id largest drawn_with drawn_from

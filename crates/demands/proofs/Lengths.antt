@@ -34,7 +34,8 @@ light_long_law c l v =
 pub cells_long_law : (c : List ℕ) (i e v : ℕ) → length (cells_after c i e v) ≡ length c
 unfolding cells_after
 cells_long_law c i e v =
-    pick_either (λ (k : List ℕ). length k ≡ length c) (eqb (bits_of i) 0) refl (length-set c i (merge (bit_and (bits_of i) e) (get_or c i 0) v))
+    pick_either (λ (k : List ℕ). length k ≡ length c) (eqb (bits_of i) 0) refl
+    (length-set c i (merge (bit_and (bits_of i) e) (get_or c i 0) v))
 
 pub apply_sized : (s : State) (w : Write) → sized (apply s w) ≡ sized s
 unfolding put

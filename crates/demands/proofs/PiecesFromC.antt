@@ -149,7 +149,8 @@ pair f e d = rw (e, d)
 
 -- THE THEOREM
 module _ {live s t live' spare' : State} {vs us ds ds' : List ℕ} {r : ℕ} (ws : List ℕ) (ls : List (List ℕ))
-    (o : Opened live (progress_of ws) s) (f : FeedsBy PicaFeedCall ws s ls vs t) (k : PicaCloseCall live t vs ds r us ds' live' spare') where
+    (o : Opened live (progress_of ws) s) (f : FeedsBy PicaFeedCall ws s ls vs t)
+    (k : PicaCloseCall live t vs ds r us ds' live' spare') where
   c_in_pieces : InPieces live s (joined ls) (close_answers (progress_of vs) live t) (close_progress (progress_of vs) live t) live' spare'
   c_in_pieces =
       let e = joined_by PicaFeedCall progress_of c_feeds ls ws vs s t o.spare_sized f (fresh_held (progress_of ws) o.progress)

@@ -55,7 +55,8 @@ module _ (s : State) (l : List ℕ) (fits : sized s ≡ true) (short : length l 
 
   -- "A list is accepted exactly when it is well formed and each write is allowed", those of mask 0 too, and, by request 3, its words are a
   -- multiple of 4: if it is, it is
-  pub accepted : legal l ≡ true → well_formed l ≡ true → all_allowed (all_writes l) ≡ true → read_answer s l ≡ answered (length (expansion l))
+  pub accepted : legal l ≡ true → well_formed l ≡ true → all_allowed (all_writes l) ≡ true → read_answer s l ≡ answered
+      (length (expansion l))
   accepted m f a = answer_is ∙ verdict_accepts l (eqb-true _ _ m) f a
 
   -- and only then, with the number of the writes in its expansion

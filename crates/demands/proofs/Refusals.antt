@@ -97,7 +97,8 @@ by_command l ps q (suc f) rest n p c e more =
 judge_refused : (l ps : List ℕ) (m n p : ℕ) → judge l ps m ≡ refused n p → FirstAtFault l ps n p
 judge_refused l [] m n p e = absurd (told_apart (sym (judge_none l m) ∙ e))
 judge_refused l (q ∷ ps) m n p e =
-    by_command l ps q (command_fault l q) _ n p refl (sym (judge_more l q ps m) ∙ e) (judge_refused l ps (m + length (kept (expand l q))) n p)
+    by_command l ps q (command_fault l q) _ n p refl (sym (judge_more l q ps m) ∙ e)
+    (judge_refused l ps (m + length (kept (expand l q))) n p)
 
 by_legal : (l : List ℕ) (n p : ℕ) (b : Bool) → legal l ≡ b → pick b (judged l) (refused 15 0) ≡ refused n p → ListRefused l n p
 by_legal l n p true t e = inr (t, judge_refused l (commands l 0) 0 n p (sym (judged_of_law l) ∙ e))

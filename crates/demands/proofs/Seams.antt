@@ -1,7 +1,7 @@
--- A run that is packed in parts. The parts' lists, joined, say the whole run, each filled by itself or all of them once. Before filling they
--- have at most two words a seam more than its shortest list, and none for a seam that no command can go across; filled once, that rounded up
--- to a multiple of 4; each filled by itself, at most four words a seam. Of runs without writes of mask 0: the list written for any other run
--- is that of what is kept of it. Assumes nothing.
+-- A run that is packed in parts. The parts' lists, joined, say the whole run, each filled by itself or all of them once. Before filling
+-- they have at most two words a seam more than its shortest list, and none for a seam that no command can go across; filled once, that
+-- rounded up to a multiple of 4; each filled by itself, at most four words a seam. Of runs without writes of mask 0: the list written for
+-- any other run is that of what is kept of it. Assumes nothing.
 use mathlib.Core.Path.{◌≡◌, refl, ◌∙◌}
 use mathlib.Core.Bool.{Bool, true, false}
 use mathlib.Core.List.{List, [], ◌∷◌, ◌++◌, append-nil}
@@ -122,8 +122,7 @@ packed_seams : (a : List Write) (rest : List (List Write)) → EachSome rest
     → length (joined_lists (a ∷ rest)) ≤ length (packed (joined_run (a ∷ rest))) + 2 * loose a rest
 packed_seams a [] n = rw (append-nil a, append-nil (packed a)) (omega arith)
 packed_seams a (b ∷ bs) n =
-    omega
-    (arith, packed_seams b bs n.1, by_seam a b bs (apart a b) refl n.0, length-append (packed a) (joined_lists (b ∷ bs)))
+    omega (arith, packed_seams b bs n.1, by_seam a b bs (apart a b) refl n.0, length-append (packed a) (joined_lists (b ∷ bs)))
 
 -- before filling, at most two words for each seam that counts more than those of any accepted list that says the run
 pub seams : (a : List Write) (rest : List (List Write)) (l : List ℕ) → EachSome rest → Says (joined_run (a ∷ rest)) l

@@ -1,5 +1,5 @@
--- The promise of the function that another crate can call settles its calls: any two answers that it allows, with what is then in the space,
--- are equal. Assumes nothing.
+-- The promise of the function that another crate can call settles its calls: any two answers that it allows, with what is then in the
+-- space, are equal. Assumes nothing.
 use lib.ListN.{length}
 use borrow.Fn.Kinds.{Dens}
 use contract.Lifetimes.{Lfts}

@@ -151,8 +151,8 @@ fn fill_kept(
 }
 
 // Puts the list written for writes that can be packed at the start of the space, where there is room for it, and answers its words in any
-// case; where the writes are known to be `live`, none of them has mask 0. Room to plan in is zeroed when it is made, so a short run is given
-// little.
+// case; where the writes are known to be `live`, none of them has mask 0. Room to plan in is zeroed when it is made, so a short run is
+// given little.
 pub fn put_list(ids: &[u32], masks: &[u32], values: &[u32], live: bool, space: &mut [u32]) -> usize
     requires { PackableRun ids.now masks.now values.now
         × (live ≡ true → kept (writes ids.now masks.now values.now) ≡ writes ids.now masks.now values.now) }

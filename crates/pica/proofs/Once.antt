@@ -120,7 +120,8 @@ pica_decode_settled κs a =
     let d = decoded_of (st a.0.now a.1.0.now a.1.1.0.now) in
     settled _ _ (λ r. r) (λ r r' e. e) (decode_call d) (fields_after d a.1.1.1.0.now) (λ r e p. p)
 
-pub pica_fragment_settled : (κs : Lfts 5) (a : Dens κs pica_fragment_kinds.ps) → Settles (λ e. e.1.1.1.1.0.now) (pica_fragment_reads.Post κs a)
+pub pica_fragment_settled : (κs : Lfts 5) (a : Dens κs pica_fragment_kinds.ps) → Settles (λ e. e.1.1.1.1.0.now)
+    (pica_fragment_reads.Post κs a)
 pica_fragment_settled κs a =
     let d = fragment_of (st a.0.now a.1.0.now a.1.1.0.now) a.1.1.1.0.now in
     settled _ _ (λ r. r) (λ r r' e. e) (fragment_call d) (stored_words_after d a.1.1.1.1.0.now) (λ r e p. p)

@@ -1,5 +1,5 @@
-// What the functions that C calls do, thin over the library's entry points; `pica_c` exports them. Each answers one number: high 32 bits the
-// refusal's number, 0 where it answered; low 32 bits the answer, or the refusal's place. The contracts cite specs/Calls.antt.
+// What the functions that C calls do, thin over the library's entry points; `pica_c` exports them. Each answers one number: high 32 bits
+// the refusal's number, 0 where it answered; low 32 bits the answer, or the refusal's place. The contracts cite specs/Calls.antt.
 #![tactic(auto)]
 
 ghost use Rattle.std.specs.Prelude.{◌≡◌, length};

@@ -1,6 +1,5 @@
--- A list is accepted exactly when its length is legal, it is well formed and each of its writes is allowed, mask 0 too; the answer is then the
--- expansion's length.
--- Assumes nothing.
+-- A list is accepted exactly when its length is legal, it is well formed and each of its writes is allowed, mask 0 too; the answer is
+-- then the expansion's length. Assumes nothing.
 use mathlib.Core.Path.{◌≡◌, refl, sym, ap, ◌∙◌}
 use mathlib.Core.Bool.{Bool, true, false, ◌&&◌}
 use mathlib.Core.List.{List, [], ◌∷◌, ◌++◌}

@@ -83,7 +83,8 @@ module _ (l : List ℕ) (at : ℕ) where
   by_clear false c = refl
 
   pub deciding_fault : first_fault (expand l at)
-      ≡ first_fault (run l at (pick (clear (id_of h) (last_id (id_of h) (count_of h) (step_of h)) (mask_of h)) 0 (count_of h + 1)) 0 (id_of h))
+      ≡ first_fault (run l at (pick (clear (id_of h) (last_id (id_of h) (count_of h) (step_of h)) (mask_of h)) 0 (count_of h + 1)) 0
+      (id_of h))
   deciding_fault = by_clear _ refl
 
   -- A COMMAND

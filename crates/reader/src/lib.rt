@@ -90,8 +90,8 @@ pub fn judge_list(list: &[u32]) -> ListVerdict
     judge_commands(list)
 }
 
-// A list's expansion, one masked write after another: how many writes made a difference. The list is well formed and its writes are allowed,
-// so that those of mask 0 change nothing, and are applied like any others: a test for them would cost more.
+// A list's expansion, one masked write after another: how many writes made a difference. The list is well formed and its writes are
+// allowed, so that those of mask 0 change nothing, and are applied like any others: a test for them would cost more.
 fn apply_list(cells: &mut [u32], fog: &mut [u32], light: &mut [u32], list: &[u32]) -> u32
     requires lengths { Lengths cells.old fog.old light.old × (length list.now ≤ 65536) }
     requires list_value { (well_formed list.now ≡ true) × (all_allowed (all_writes list.now) ≡ true) }

@@ -57,7 +57,8 @@ module _ (cells : List ℕ) (i e v : ℕ) where
   set_same x h (yes l) = rw (sym (get_or-set_same cells i x 0 l) ∙ h) (set-get_or cells i 0)
   set_same x h (no l) = set_out cells i x (omega arith)
 
-  cells_same : (b : Bool) → eqb (bits_of i) 0 ≡ b → get_or (cells_after cells i e v) i 0 ≡ get_or cells i 0 → cells_after cells i e v ≡ cells
+  cells_same : (b : Bool) → eqb (bits_of i) 0 ≡ b → get_or (cells_after cells i e v) i 0 ≡ get_or cells i 0 → cells_after cells i e v
+      ≡ cells
   unfolding cells_after
   cells_same true z h = rw z
   cells_same false z h = rw z (set_same _ (rw z at h) (dec_lt i (length cells)))

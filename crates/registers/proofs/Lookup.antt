@@ -42,7 +42,8 @@ slot_small j h = ltb-true (get_or slot_table j 0) 66 (is_true _ (at (λ _ r. ltb
 id_small : (j : ℕ) → j < 256 → get_or held_table (2 * get_or slot_table j 0) 0 < 768
 unfolding slot_table held_table row_words row_in held
 id_small j h =
-    ltb-true (get_or held_table (2 * get_or slot_table j 0) 0) 768 (is_true _ (at (λ _ r. ltb (get_or held_table (2 * r) 0) 768) slot_table tt j h))
+    ltb-true (get_or held_table (2 * get_or slot_table j 0) 0) 768
+    (is_true _ (at (λ _ r. ltb (get_or held_table (2 * r) 0) 768) slot_table tt j h))
 
 pub record Has (k : ℕ) : Type 0 where
   pub some : bits_of k ≡ 0 → ⊥

@@ -31,6 +31,7 @@ unfolding settings_in field_table found
 by_table reg = refl
 
 -- where two readings agree on the fields of the table, they give the same state
-pub table_decides : (reg reg' : Registers) → map (raw_in reg) field_table ≡ map (raw_in reg') field_table → settings_in reg ≡ settings_in reg'
+pub table_decides : (reg reg' : Registers) → map (raw_in reg) field_table ≡ map (raw_in reg') field_table → settings_in reg
+    ≡ settings_in reg'
 table_decides reg reg' e =
     by_table reg ∙ ap (λ (vs : List ℕ). settings_in (found field_table vs)) e ∙ sym (by_table reg')

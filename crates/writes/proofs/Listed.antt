@@ -42,7 +42,8 @@ module _ (l is ms vs : List ℕ) where
 
       -- an accepted list goes by the room
       module _ (n : ℕ) (v : verdict l ≡ answered n) where
-        by_room : (a : Answer) → (n ≡ length (expansion l) → a ≡ if_room 22 (length (expansion l)) (length is)) → a ≡ writes_answer l is ms vs
+        by_room : (a : Answer) → (n ≡ length (expansion l) → a ≡ if_room 22 (length (expansion l)) (length is)) → a
+            ≡ writes_answer l is ms vs
         unfolding writes_answer
         by_room a e = rw (t, le-leb (length l) 65536 h, v) (e (verdict_accepted l n v).2)
 

@@ -13,4 +13,5 @@ unfolding colour_of alpha_mixed stage_of
 returns c =
     let a = c.args in
     let cells = a.cells.now in
-    step_table_0 a.table.now (stage_in (in_cells cells) 0xC0) (get_or cells 0xC3 0) c.run_stage-result.result refl c.run_stage-result.ensures
+    step_table_0 a.table.now (stage_in (in_cells cells) 0xC0)
+    (get_or cells 0xC3 0) c.run_stage-result.result refl c.run_stage-result.ensures

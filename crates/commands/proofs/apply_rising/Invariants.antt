@@ -13,7 +13,8 @@ invariant-loop-left l =
     ≡ apply_all (st l.initial.cells l.initial.fog l.initial.light) (run_from l.list l.initial.j l.initial.left l.initial.id l.mask 1))
     × (l.n + l.left ≤ l.initial.n + l.initial.left)
     × (l.n + differences (st l.cells l.fog l.light) (run_from l.list l.j l.left l.id l.mask 1)
-    ≡ l.initial.n + differences (st l.initial.cells l.initial.fog l.initial.light) (run_from l.list l.initial.j l.initial.left l.initial.id l.mask 1))
+    ≡ l.initial.n + differences (st l.initial.cells l.initial.fog l.initial.light)
+    (run_from l.list l.initial.j l.initial.left l.initial.id l.mask 1))
 
 abbrev pub decreases-loop-left : goal.decreases-loop-left
 decreases-loop-left l = l.left

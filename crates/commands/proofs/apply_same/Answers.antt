@@ -23,7 +23,10 @@ returns-then-bits-eq0 c =
     let a = c.args in
     let z = sym c.bits_held-bits.ensures ∙ c.if-bits-eq0.true in
     let t = c.requires.to_one.0 in
-    record { count = λ fog light. sym (free_counts a.h t a.list.now z (st a.cells.now fog light) a.first a.from); state = λ fog light. sym (free_command a.h t a.list.now z (st a.cells.now fog light) a.first a.from) }
+    record {
+      count = λ fog light. sym (free_counts a.h t a.list.now z (st a.cells.now fog light) a.first a.from);
+      state = λ fog light. sym (free_command a.h t a.list.now z (st a.cells.now fog light) a.first a.from);
+    }
 
 pub bounds-cells-i : goal.bounds-cells-i
 bounds-cells-i c = omega (arith, inside (goal.at.bounds-cells-i c).Else-bits-eq0)
@@ -39,7 +42,9 @@ returns c =
     let bytes = c.spread_mask.ensures in
     record {
       count = λ fog light. rw (c.count_changes.ensures, bits, bytes)
-          (sym (held_counts a.h t a.list.now (some (goal.at.returns c).Else-bits-eq0) a.cells.now fog light (inside (goal.at.returns c).Else-bits-eq0) a.first a.from));
+          (sym (held_counts a.h t a.list.now (some (goal.at.returns c).Else-bits-eq0) a.cells.now fog light
+          (inside (goal.at.returns c).Else-bits-eq0) a.first a.from));
       state = λ fog light. rw (c.merged.ensures, bits, bytes, c.last_value-value.ensures)
-          (sym (held_command a.h t a.list.now (some (goal.at.returns c).Else-bits-eq0) a.cells.now fog light (inside (goal.at.returns c).Else-bits-eq0) a.first a.from));
+          (sym (held_command a.h t a.list.now (some (goal.at.returns c).Else-bits-eq0) a.cells.now fog light
+          (inside (goal.at.returns c).Else-bits-eq0) a.first a.from));
     }

@@ -24,14 +24,20 @@ returns-then-bits-eq0 c =
     let a = c.args in
     let z = sym c.bits_held-bits.ensures ∙ c.if-bits-eq0.true in
     let t = c.requires.to_one.0 in
-    record { count = λ fog light. sym (free_run_counts a.h t a.list.now z (st a.cells.now fog light) a.from a.h.count); state = λ fog light. sym (free_run a.h t a.list.now z (st a.cells.now fog light) a.from a.h.count) }
+    record {
+      count = λ fog light. sym (free_run_counts a.h t a.list.now z (st a.cells.now fog light) a.from a.h.count);
+      state = λ fog light. sym (free_run a.h t a.list.now z (st a.cells.now fog light) a.from a.h.count);
+    }
 
 pub returns-then-h-eq0 : goal.returns-then-h-eq0
 returns-then-h-eq0 c =
     let a = c.args in
     let h = a.h in
     let z : h.count ≤ 0 = omega (arith, c.if-h-eq0.true) in
-    record { count = λ fog light. sym (run_counted a.list.now h.mask (st a.cells.now fog light) a.from h.count h.id 0 z); state = λ fog light. sym (run_applied a.list.now h.mask (st a.cells.now fog light) a.from h.count h.id 0 z) }
+    record {
+      count = λ fog light. sym (run_counted a.list.now h.mask (st a.cells.now fog light) a.from h.count h.id 0 z);
+      state = λ fog light. sym (run_applied a.list.now h.mask (st a.cells.now fog light) a.from h.count h.id 0 z);
+    }
 
 pub bounds-cells-i : goal.bounds-cells-i
 bounds-cells-i c = omega (arith, inside (goal.at.bounds-cells-i c).Else-bits-eq0)
@@ -50,7 +56,9 @@ returns c =
     let p : 0 < h.count = omega (arith, c.if-h-eq0.false) in
     record {
       count = λ fog light. rw (c.many_changes.ensures.0, bits, bytes)
-          (sym (values_counted h t l (some (goal.at.returns c).Else-bits-eq0) a.cells.now fog light (inside (goal.at.returns c).Else-bits-eq0) a.from h.count p));
+          (sym (values_counted h t l (some (goal.at.returns c).Else-bits-eq0) a.cells.now fog light
+          (inside (goal.at.returns c).Else-bits-eq0) a.from h.count p));
       state = λ fog light. rw (c.merged.ensures, bits, bytes)
-          (sym (values_applied h t l (some (goal.at.returns c).Else-bits-eq0) a.cells.now fog light (inside (goal.at.returns c).Else-bits-eq0) a.from h.count p));
+          (sym (values_applied h t l (some (goal.at.returns c).Else-bits-eq0) a.cells.now fog light
+          (inside (goal.at.returns c).Else-bits-eq0) a.from h.count p));
     }

@@ -9,7 +9,7 @@ returns c =
       c.take_entries-2.ensures,
       c.take_entries.ensures,
       c.take_cells.ensures,
-      c.requires.lengths_2.1,
-      c.requires.lengths_2.2,
+      c.requires.from_lengths.1,
+      c.requires.from_lengths.2,
     )
     (sym (taken_is _ _))

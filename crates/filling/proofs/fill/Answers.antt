@@ -35,19 +35,25 @@ overflow_add-need c = omega (arith, few (goal.at.overflow_add-need c).After-plan
 
 pub returns-then-space-need : goal.returns-then-space-need
 returns-then-space-need c =
-    puts_short (run (goal.at.returns-then-space-need c).After-plan_run-laid) _ _ (planned (goal.at.returns-then-space-need c).After-plan_run-laid) refl _ c.if-space-need.true
+    puts_short (run (goal.at.returns-then-space-need c).After-plan_run-laid) _ _
+    (planned (goal.at.returns-then-space-need c).After-plan_run-laid) refl _ c.if-space-need.true
 
 pub returns-then-need-lt2 : goal.returns-then-need-lt2
 returns-then-need-lt2 c =
-    puts_empty (run (goal.at.returns-then-need-lt2 c).After-plan_run-laid) _ _ (planned (goal.at.returns-then-need-lt2 c).After-plan_run-laid) refl c.if-need-lt2.true _ c.if-space-need.false
+    puts_empty (run (goal.at.returns-then-need-lt2 c).After-plan_run-laid) _ _
+    (planned (goal.at.returns-then-need-lt2 c).After-plan_run-laid) refl c.if-need-lt2.true _ c.if-space-need.false
 
 pub lay_out-requires : goal.lay_out-requires
 lay_out-requires c =
     let o = c.plan_run-laid in
     let s = (o.ensures c.args.values.now c.requires.0.values).sizes in
     let l = c.put_pair.auto.space in
-    let h = c.if-space-need.false in
-    (c.requires.0, omega (arith, o.auto.extra, c.requires.2), s, omega (arith, planned (goal.at.lay_out-requires c).After-plan_run-laid, h, l))
+    let h = c.if-space-need.false in (
+      c.requires.0,
+      omega (arith, o.auto.extra, c.requires.2),
+      s,
+      omega (arith, planned (goal.at.lay_out-requires c).After-plan_run-laid, h, l),
+    )
 
 pub returns : goal.returns
 returns c =
@@ -55,4 +61,5 @@ returns c =
     let u = c.if-need-lt2.false in
     let n = c.plan_run-laid.result in
     let q = c.put_pair.ensures in
-    puts_filled (run (goal.at.returns c).After-plan_run-laid) n (n + n % 4) (planned (goal.at.returns c).After-plan_run-laid) refl (n + n % 4 - 2) (omega (arith, u)) _ _ _ h q c.lay_out.ensures
+    puts_filled (run (goal.at.returns c).After-plan_run-laid) n (n + n % 4) (planned (goal.at.returns c).After-plan_run-laid) refl
+    (n + n % 4 - 2) (omega (arith, u)) _ _ _ h q c.lay_out.ensures

@@ -13,6 +13,6 @@ unfolding flat
 returns c =
     let s = c.args.s in
     let to_dc = c.lay_to_dc.ensures in
-    let to-fd = c.lay_to_fd.ensures ∙ ap (λ (l : List ℕ). l ++ words_to_fd s.buffer_fog s.stages) to_dc in
-    let to-1c5 = c.lay_to_1c5.ensures ∙ ap (λ (l : List ℕ). l ++ words_to_1c5 s.framebuffer s.light_port) to-fd in
-    whole c.lay_to_1c5.new.fields _ 204 (omega arith) to-1c5
+    let to_fd = c.lay_to_fd.ensures ∙ ap (λ (l : List ℕ). l ++ words_to_fd s.buffer_fog s.stages) to_dc in
+    let to_1c5 = c.lay_to_1c5.ensures ∙ ap (λ (l : List ℕ). l ++ words_to_1c5 s.framebuffer s.light_port) to_fd in
+    whole c.lay_to_1c5.new.fields _ 204 (omega arith) to_1c5

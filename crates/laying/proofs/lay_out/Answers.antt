@@ -43,8 +43,12 @@ loop-i-init c =
     (laid_none _ _, refl)
 
 pub put_command-requires : goal.put_command-requires
-put_command-requires c =
-    (c.requires.0, one (goal.at.put_command-requires c).After-wide-k, (room (goal.at.put_command-requires c).After-wide-k).0, (room (goal.at.put_command-requires c).After-wide-k).1)
+put_command-requires c = (
+  c.requires.0,
+  one (goal.at.put_command-requires c).After-wide-k,
+  (room (goal.at.put_command-requires c).After-wide-k).0,
+  (room (goal.at.put_command-requires c).After-wide-k).1,
+)
 
 pub words_of-at-requires : goal.words_of-at-requires
 words_of-at-requires c =
@@ -67,7 +71,8 @@ loop-i-preserved c =
     let a = c.args in
     let o = c.loop-i in
     let p = c.put_command in
-    let m = laid_more _ _ _ _ _ _ (below (goal.at.loop-i-preserved c).After-wide-k) (planned (goal.at.loop-i-preserved c).After-wide-k) o.invariant.0 in
+    let m = laid_more _ _ _ _ _ _ (below (goal.at.loop-i-preserved c).After-wide-k)
+    (planned (goal.at.loop-i-preserved c).After-wide-k) o.invariant.0 in
     (rw (c.words_of-at.ensures, p.ensures) m, p.auto.space ∙ o.invariant.1)
 
 pub shape_of-space : goal.shape_of-space

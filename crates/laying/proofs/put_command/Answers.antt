@@ -13,14 +13,14 @@ use Rattle.laying.proofs.Lays.{copied, word_extra, word_pad, plain_at, two_words
 use Rattle.laying.proofs.put_command.Goals as goal
 use Rattle.laying.proofs.put_command.Goals.{After-header_of}
 
-abbrev words-put : (c : After-header_of) → List ℕ
-words-put c =
+abbrev words_put : (c : After-header_of) → List ℕ
+words_put c =
     let a = c.args in command a.k (drop a.i (writes a.ids.now a.masks.now a.values.now))
 
 abbrev after_two : (c : After-header_of) → List ℕ
 after_two c = let a = c.args in set (set a.space.now a.at (get_or a.values.now a.i 0)) (a.at + 1) c.header_of.result
 
-begun : (c : After-header_of) → after_two c ≡ paste c.args.space.now c.args.at (words-put c) 2
+begun : (c : After-header_of) → after_two c ≡ paste c.args.space.now c.args.at (words_put c) 2
 begun c =
     let a = c.args in
     let h = header (get_or a.ids.now a.i 0) (get_or a.masks.now a.i 0) a.k in
@@ -74,8 +74,12 @@ bounds-space-at-2 c =
     omega (arith, c.requires.1.low, length-set a.space.now a.at (get_or a.values.now a.i 0))
 
 pub put_short-requires : goal.put_short-requires
-put_short-requires c =
-    (c.requires.1.low, c.if-k-lt4.true, omega (arith, c.requires.0.values, c.requires.2), omega (arith, c.requires.3, long (goal.at.put_short-requires c).After-header_of))
+put_short-requires c = (
+  c.requires.1.low,
+  c.if-k-lt4.true,
+  omega (arith, c.requires.0.values, c.requires.2),
+  omega (arith, c.requires.3, long (goal.at.put_short-requires c).After-header_of),
+)
 
 pub shape_of-space-then-k-lt4 : goal.shape_of-space-then-k-lt4
 shape_of-space-then-k-lt4 c =
@@ -85,13 +89,14 @@ pub returns-then-k-lt4 : goal.returns-then-k-lt4
 returns-then-k-lt4 c =
     let a = c.args in
     c.put_short.ensures
-    ∙ short_words a.ids.now a.masks.now a.values.now c.requires.0 a.i a.k c.requires.1 a.space.now (after_two (goal.at.returns-then-k-lt4 c).After-header_of) a.at
+    ∙ short_words a.ids.now a.masks.now a.values.now c.requires.0 a.i a.k c.requires.1 a.space.now
+    (after_two (goal.at.returns-then-k-lt4 c).After-header_of) a.at
     c.if-k-lt4.true c.requires.3 (begun (goal.at.returns-then-k-lt4 c).After-header_of)
 
 pub loop-m-init : goal.loop-m-init
 loop-m-init c =
     let a = c.args in
-    let C = words-put (goal.at.loop-m-init c).After-header_of in
+    let C = words_put (goal.at.loop-m-init c).After-header_of in
     let e = begun (goal.at.loop-m-init c).After-header_of in
     let r : a.at + (1 + 1) ≤ length a.space.now = omega (arith, c.requires.3, c.requires.1.low) in
     let m = copy_more a.space.now C a.at 2 (1 + 1) r (omega (arith, c.requires.1.long)) (omega arith) in
@@ -125,7 +130,7 @@ pub loop-m-preserved : goal.loop-m-preserved
 loop-m-preserved c =
     let a = c.args in
     let o = c.loop-m in
-    let C = words-put (goal.at.loop-m-preserved c).After-header_of in
+    let C = words_put (goal.at.loop-m-preserved c).After-header_of in
     let l = long (goal.at.loop-m-preserved c).After-header_of in (
       (let z : 1 ≤ o.m + 1 = omega arith in z),
       (let z : o.m + 1 ≤ a.k = omega arith in z),
@@ -148,7 +153,7 @@ pub returns-then-k-eq0 : goal.returns-then-k-eq0
 returns-then-k-eq0 c =
     let a = c.args in
     let o = c.loop-m in
-    let C = words-put (goal.at.returns-then-k-eq0 c).After-header_of in
+    let C = words_put (goal.at.returns-then-k-eq0 c).After-header_of in
     let z =
     copied a.space.now C _ o.space a.at o.m (a.k + 1) (begun (goal.at.returns-then-k-eq0 c).After-header_of) o.invariant.3 (omega arith)
     (omega (arith, c.requires.1.low)) (omega arith) (omega (arith, c.requires.1.long)) in
@@ -164,6 +169,6 @@ pub returns-else-k-eq0 : goal.returns-else-k-eq0
 returns-else-k-eq0 c =
     let a = c.args in
     let o = c.loop-m in
-    let C = words-put (goal.at.returns-else-k-eq0 c).After-header_of in
+    let C = words_put (goal.at.returns-else-k-eq0 c).After-header_of in
     copied a.space.now C _ o.space a.at o.m (words a.k) (begun (goal.at.returns-else-k-eq0 c).After-header_of) o.invariant.3
     (omega arith) (omega (arith, c.requires.1.low)) (omega arith) (omega (arith, c.requires.1.long))

@@ -8,7 +8,10 @@ use Rattle.lines.proofs.put_text.Given as goal
 
 abbrev pub invariant-loop-i : goal.invariant-loop-i
 invariant-loop-i l =
-    (l.line ≡ paste l.initial.line l.at l.text l.i) × (l.i ≤ length l.text) × (l.at + length l.text ≤ length l.initial.line) × (length l.line ≡ length l.initial.line)
+    (l.line ≡ paste l.initial.line l.at l.text l.i)
+    × (l.i ≤ length l.text)
+    × (l.at + length l.text ≤ length l.initial.line)
+    × (length l.line ≡ length l.initial.line)
 
 abbrev pub decreases-loop-i : goal.decreases-loop-i
 decreases-loop-i l = length l.text - l.i

@@ -1,4 +1,5 @@
--- Each way out is one case of `check_answer`; what is passed at once has no mask 0. The loop: no write before i is refused, so what is left decides. Assumes nothing.
+-- Each way out is one case of `check_answer`; what is passed at once has no mask 0. The loop: no write before i is refused, so what is
+-- left decides. Assumes nothing.
 use Rattle.std.proofs.Common.{◌≡◌, true, drop, refl, ◌∙◌, arith}
 use mathlib.Core.Bool.{false≢true}
 use Rattle.runs.specs.PackedList.{writes}
@@ -13,11 +14,11 @@ one_length : (c : At-loop-i)
     → level c.args.ids.now c.args.masks.now c.args.values.now ≡ true
 one_length c = c.if-not-n-masks.false
 
-from-i : (c : At-loop-i)
+from_i : (c : At-loop-i)
     → check_answer c.args.ids.now c.args.masks.now c.args.values.now
     ≡ first_wrong c.loop-i.i
     (drop c.loop-i.i (writes c.args.ids.now c.args.masks.now c.args.values.now))
-from-i c = check_writes _ _ _ (one_length c) c.if-n-gt4096.false ∙ c.loop-i.invariant.1
+from_i c = check_writes _ _ _ (one_length c) c.if-n-gt4096.false ∙ c.loop-i.invariant.1
 
 pub returns-then-not-n-masks : goal.returns-then-not-n-masks
 returns-then-not-n-masks c =
@@ -55,18 +56,20 @@ returns-then-why-ne0 c =
     let a = c.args in
     let w = c.wrong_with-why in
     let t = c.loop-i-test.true in
-    from-i (goal.at.returns-then-why-ne0 c).At-loop-i ∙ wrong_here a.ids.now a.masks.now a.values.now _ (one_length (goal.at.returns-then-why-ne0 c).At-loop-i) t w.result w.ensures c.if-why-ne0.true
+    from_i (goal.at.returns-then-why-ne0 c).At-loop-i ∙ wrong_here a.ids.now a.masks.now a.values.now _
+    (one_length (goal.at.returns-then-why-ne0 c).At-loop-i) t w.result w.ensures c.if-why-ne0.true
 
 pub loop-i-preserved : goal.loop-i-preserved
 loop-i-preserved c =
     let a = c.args in
     let w = c.wrong_with-why in
     let t = c.loop-i-test.true in
-    let none = wrong_none a.ids.now a.masks.now a.values.now _ (one_length (goal.at.loop-i-preserved c).At-loop-i) t w.result w.ensures c.if-why-ne0.false in
+    let none = wrong_none a.ids.now a.masks.now a.values.now _
+    (one_length (goal.at.loop-i-preserved c).At-loop-i) t w.result w.ensures c.if-why-ne0.false in
     (omega arith, c.loop-i.invariant.1 ∙ none)
 
 pub returns : goal.returns
 returns c =
     let a = c.args in
     let e = wrong_end a.ids.now a.masks.now a.values.now _ (one_length (goal.at.returns c).At-loop-i) c.loop-i-test.false in
-    (from-i (goal.at.returns c).At-loop-i ∙ e, (λ t. absurd (false≢true t)))
+    (from_i (goal.at.returns c).At-loop-i ∙ e, (λ t. absurd (false≢true t)))

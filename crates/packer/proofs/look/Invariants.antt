@@ -1,4 +1,5 @@
--- Each way out is one case of `check_answer`; what is passed at once has no mask 0. The loop: no write before i is refused, so what is left decides. Assumes nothing.
+-- Each way out is one case of `check_answer`; what is passed at once has no mask 0. The loop: no write before i is refused, so what is
+-- left decides. Assumes nothing.
 use Rattle.std.proofs.Common.{◌≡◌, ◌-◌, ◌≤◌, length, drop}
 use Rattle.runs.specs.PackedList.{writes}
 use Rattle.packer.specs.Checks.{first_wrong}

@@ -34,7 +34,13 @@ pub put_run-requires : goal.put_run-requires
 put_run-requires c =
     let p = c.requires in
     let w = c.put_one-n.auto in
-    record { lengths = ((omega (arith, p.lengths.0.0, w.cells), omega (arith, p.lengths.0.1, w.fog), omega (arith, p.lengths.0.2, w.light)), p.lengths.1); id_bound = (omega (arith, p.id_bound.0, p.id_bound.2), p.id_bound.1, p.id_bound.2, p.id_bound.3) }
+    record {
+      lengths = (
+        (omega (arith, p.lengths.0.0, w.cells), omega (arith, p.lengths.0.1, w.fog), omega (arith, p.lengths.0.2, w.light)),
+        p.lengths.1,
+      );
+      id_bound = (omega (arith, p.id_bound.0, p.id_bound.2), p.id_bound.1, p.id_bound.2, p.id_bound.3);
+    }
 
 pub overflow_add-result : goal.overflow_add-result
 overflow_add-result c =
@@ -49,4 +55,7 @@ returns c =
     let e = c.put_one-n.ensures in
     let r = c.put_run.ensures in
     let b = c.spread_mask-bytes.ensures in
-    record { count = omega (arith, rw b at e.count.0, differences_more s w ws, rw (e.state, b) at r.count.0); state = r.state ∙ rw (e.state, b) (sym (apply_more s w ws)) }
+    record {
+      count = omega (arith, rw b at e.count.0, differences_more s w ws, rw (e.state, b) at r.count.0);
+      state = r.state ∙ rw (e.state, b) (sym (apply_more s w ws));
+    }

@@ -60,7 +60,10 @@ returns-then-id-2 c =
 pub apply_values-requires : goal.apply_values-requires
 apply_values-requires c =
     let p = c.requires in
-    record { cells_len = (p.lengths.0.0, p.lengths.1); to_one = (record { one = c.if-step-eq0.true; no_fog = c.if-id.false; no_light = c.if-id-2.false }, p.id_bound.1, p.id_bound.3) }
+    record {
+      cells_len = (p.lengths.0.0, p.lengths.1);
+      to_one = (record { one = c.if-step-eq0.true; no_fog = c.if-id.false; no_light = c.if-id-2.false }, p.id_bound.1, p.id_bound.3);
+    }
 
 pub returns-then-step-eq0 : goal.returns-then-step-eq0
 returns-then-step-eq0 c =
@@ -71,7 +74,10 @@ returns-then-step-eq0 c =
     let n = e.count a.fog.now a.light.now in
     let ws = run_from a.list.now a.from h.count h.id h.mask 0 in
     let few = run_from_length a.list.now a.from h.count h.id h.mask 0 in
-    record { count = rw c.if-step-eq0.true ((n, omega (arith, n, few, differences_most s ws))); state = rw c.if-step-eq0.true (e.state a.fog.now a.light.now) }
+    record {
+      count = rw c.if-step-eq0.true ((n, omega (arith, n, few, differences_most s ws)));
+      state = rw c.if-step-eq0.true (e.state a.fog.now a.light.now);
+    }
 
 pub loop-left-init : goal.loop-left-init
 loop-left-init c =
@@ -104,7 +110,11 @@ loop-left-preserved c =
     let e = run_applies a.list.now a.h.mask s o.j o.left o.id a.h.step some in
     let k = run_counts a.list.now a.h.mask s o.j o.left o.id a.h.step some in
     let d = rw c.spread_mask-bytes.ensures at w.ensures.count.0 in (
-      (omega (arith, o.invariant.0.0, w.auto.cells), omega (arith, o.invariant.0.1, w.auto.fog), omega (arith, o.invariant.0.2, w.auto.light)),
+      (
+        omega (arith, o.invariant.0.0, w.auto.cells),
+        omega (arith, o.invariant.0.1, w.auto.fog),
+        omega (arith, o.invariant.0.2, w.auto.light),
+      ),
       omega (arith, o.invariant.1, some),
       omega (arith, o.invariant.2, w.ensures.count.1, some),
       omega (arith, o.invariant.3, c.requires.id_bound.2, some),
@@ -119,4 +129,7 @@ returns c =
     let s = st o.cells o.fog o.light in
     let none = c.loop-left-test.false in
     let k = run_counted a.list.now a.h.mask s o.j o.left o.id a.h.step none in
-    record { count = (omega (arith, k, o.invariant.5), omega (arith, o.invariant.2)); state = sym (run_applied a.list.now a.h.mask s o.j o.left o.id a.h.step none) ∙ o.invariant.4 }
+    record {
+      count = (omega (arith, k, o.invariant.5), omega (arith, o.invariant.2));
+      state = sym (run_applied a.list.now a.h.mask s o.j o.left o.id a.h.step none) ∙ o.invariant.4;
+    }

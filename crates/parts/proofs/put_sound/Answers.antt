@@ -24,4 +24,7 @@ returns c =
     let w = writing a.id a.mask a.value in
     let e = c.put_one.ensures in
     let b = c.spread_mask-bytes.ensures in
-    record { difference = omega (arith, rw b at e.count.0, counts_one s a.fault w c.if-fault-ne0.false c.if-unmasked.false); state = rw b at e.state ∙ sound_one s a.fault w c.if-fault-ne0.false c.if-unmasked.false }
+    record {
+      difference = omega (arith, rw b at e.count.0, counts_one s a.fault w c.if-fault-ne0.false c.if-unmasked.false);
+      state = rw b at e.state ∙ sound_one s a.fault w c.if-fault-ne0.false c.if-unmasked.false;
+    }

@@ -83,7 +83,10 @@ put_command-n-requires c =
     let f = facts (goal.at.put_command-n-requires c).Else-not-here-is_clear in
     let t = c.commands-test.true in
     let o = c.commands.invariant in
-    record { lengths = ((o.0, o.1, o.2), c.requires.lengths.1); id_bound = (omega (arith, h.0), omega (arith, h.2), omega (arith, h.3), omega (arith, h.2, f.0, t)) }
+    record {
+      lengths = ((o.0, o.1, o.2), c.requires.lengths.1);
+      id_bound = (omega (arith, h.0), omega (arith, h.2), omega (arith, h.3), omega (arith, h.2, f.0, t));
+    }
 
 pub overflow_add-differences : goal.overflow_add-differences
 overflow_add-differences c =
@@ -133,7 +136,10 @@ commands-preserved c =
     let sure : clear d.id (last_id d.id d.count d.step) d.mask ≡ true = rw (h.0, h.1, h.2, h.3) f.2 in
     let good = with_allowed d (get_or l o.i 0) l (o.i + 2) low
     (λ k y z. clear_fault d.id (last_id d.id d.count d.step) k d.mask sure y z) in
-    let same = kept_same t (record { long = o.invariant.0; small = o.invariant.5 }) d.mask _ (with_mask d (get_or l o.i 0) l (o.i + 2)) good in (
+    let same = kept_same t (record {
+      long = o.invariant.0;
+      small = o.invariant.5;
+    }) d.mask _ (with_mask d (get_or l o.i 0) l (o.i + 2)) good in (
       omega (arith, o.invariant.0, w.auto.cells),
       omega (arith, o.invariant.1, w.auto.fog),
       omega (arith, o.invariant.2, w.auto.light),

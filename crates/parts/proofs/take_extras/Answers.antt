@@ -33,8 +33,10 @@ overflow_add-first c =
     omega (arith, (plain (goal.at.overflow_add-first c).Else-not-p).1, (plain (goal.at.overflow_add-first c).Else-not-p).2)
 
 pub last_id-last-requires : goal.last_id-last-requires
-last_id-last-requires c =
-    (omega (arith, (plain (goal.at.last_id-last-requires c).Else-not-p).1, (plain (goal.at.last_id-last-requires c).Else-not-p).2), omega (arith, c.run_length-n.ensures.4))
+last_id-last-requires c = (
+  omega (arith, (plain (goal.at.last_id-last-requires c).Else-not-p).1, (plain (goal.at.last_id-last-requires c).Else-not-p).2),
+  omega (arith, c.run_length-n.ensures.4),
+)
 
 pub returns-then-not-is_clear : goal.returns-then-not-is_clear
 returns-then-not-is_clear c =
@@ -44,7 +46,10 @@ pub put_command-differences-requires : goal.put_command-differences-requires
 put_command-differences-requires c =
     let n = c.run_length-n.ensures in
     let f = plain (goal.at.put_command-differences-requires c).Else-not-p in
-    record { lengths = c.requires.lengths; id_bound = (omega (arith, f.1, f.2), omega (arith, n.4), f.1, omega (arith, n.0, n.3, c.requires.at_in_bounds.0)) }
+    record {
+      lengths = c.requires.lengths;
+      id_bound = (omega (arith, f.1, f.2), omega (arith, n.4), f.1, omega (arith, n.0, n.3, c.requires.at_in_bounds.0));
+    }
 
 pub returns : goal.returns
 returns c =

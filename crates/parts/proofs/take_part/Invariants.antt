@@ -10,8 +10,10 @@ abbrev pub invariant-loop-at : goal.invariant-loop-at
 invariant-loop-at l =
     (length l.cells ≡ 768) × (length l.fog ≡ 128) × (length l.light ≡ 6144) × (l.at ≤ length l.part)
     × (after l.q (drop l.at l.part) ≡ after l.initial.q l.part)
-    × (apply_all (st l.cells l.fog l.light) (made l.q (drop l.at l.part)) ≡ apply_all (st l.initial.cells l.initial.fog l.initial.light) (made l.initial.q l.part))
-    × (l.n + differences (st l.cells l.fog l.light) (made l.q (drop l.at l.part)) ≡ differences (st l.initial.cells l.initial.fog l.initial.light) (made l.initial.q l.part))
+    × (apply_all (st l.cells l.fog l.light) (made l.q (drop l.at l.part)) ≡ apply_all (st l.initial.cells l.initial.fog l.initial.light)
+    (made l.initial.q l.part))
+    × (l.n + differences (st l.cells l.fog l.light) (made l.q (drop l.at l.part)) ≡ differences
+    (st l.initial.cells l.initial.fog l.initial.light) (made l.initial.q l.part))
     × (l.n ≤ l.at)
 
 abbrev pub decreases-loop-at : goal.decreases-loop-at

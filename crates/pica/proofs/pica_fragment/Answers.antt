@@ -8,7 +8,10 @@ returns-in-Done c =
     let stored = c.stored_of-old.ensures in
     let d = c.draw.ensures.answer in
     let done = c.in-Done.is in
-    record { answer = rw (← given, ← stored, ← d, done, c.told.ensures, c.verdict_number.ensures); stored = rw (← given, ← stored, ← d, done, c.words_stored.ensures) }
+    record {
+      answer = rw (← given, ← stored, ← d, done, c.told.ensures, c.verdict_number.ensures);
+      stored = rw (← given, ← stored, ← d, done, c.words_stored.ensures);
+    }
 
 pub returns-in-Refused : goal.returns-in-Refused
 returns-in-Refused c =

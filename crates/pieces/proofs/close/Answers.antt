@@ -39,14 +39,20 @@ take_state-requires c =
     let a = c.args in
     let s = st a.cells.now a.fog.now a.light.now in
     let t = st a.spare_cells.now a.spare_fog.now a.spare_light.now in
-    record { lengths = lengths t (sym c.is_sized-2.ensures ∙ c.if-not-is_sized-2.false); lengths_2 = lengths s (sym c.is_sized.ensures ∙ c.if-not-is_sized.false) }
+    record {
+      lengths = lengths t (sym c.is_sized-2.ensures ∙ c.if-not-is_sized-2.false);
+      from_lengths = lengths s (sym c.is_sized.ensures ∙ c.if-not-is_sized.false);
+    }
 
 pub take_state-requires-in-Accepted : goal.take_state-requires-in-Accepted
 take_state-requires-in-Accepted c =
     let a = c.args in
     let s = st a.cells.now a.fog.now a.light.now in
     let t = st a.spare_cells.now a.spare_fog.now a.spare_light.now in
-    record { lengths = lengths s (sym c.is_sized.ensures ∙ c.if-not-is_sized.false); lengths_2 = lengths t (sym c.is_sized-2.ensures ∙ c.if-not-is_sized-2.false) }
+    record {
+      lengths = lengths s (sym c.is_sized.ensures ∙ c.if-not-is_sized.false);
+      from_lengths = lengths t (sym c.is_sized-2.ensures ∙ c.if-not-is_sized-2.false);
+    }
 
 pub returns-in-Refused : goal.returns-in-Refused
 returns-in-Refused c =

@@ -10,9 +10,9 @@ use Rattle.planning.proofs.ByEnds.{ends_chose}
 use Rattle.planning.proofs.choose.Goals as goal
 
 -- a lone write's size doesn't depend on the ends
-held-size : (t : List ℕ) (i run last before words : ℕ) → Longest t i run last before words → run ≤ 256
+held_size : (t : List ℕ) (i run last before words : ℕ) → Longest t i run last before words → run ≤ 256
     → size_by run last before ≡ size_by run (get_or t (i + run) 0) (get_or t (i + run - 1) 0)
-held-size t i run last before words L h = by-lone (dec_lt run 2)
+held_size t i run last before words L h = by-lone (dec_lt run 2)
   where
     by-lone : Dec (run < 2) → size_by run last before ≡ size_by run (get_or t (i + run) 0) (get_or t (i + run - 1) 0)
     by-lone (yes l) = let z : run ≡ 1 = omega (arith, L.some) in rw z
@@ -39,5 +39,5 @@ returns c =
     let near = rw m at c.requires.near in
     rw m
     (ends_chose a.run a.i t c.requires.some near _
-    (c.size_by-size-2.ensures ∙ held-size t a.i a.run a.last a.before a.words c.requires h)
+    (c.size_by-size-2.ensures ∙ held_size t a.i a.run a.last a.before a.words c.requires h)
     (c.requires.needed h))

@@ -7,7 +7,9 @@ use Rattle.ports.proofs.fill.Given as goal
 
 abbrev pub invariant-loop-k : goal.invariant-loop-k
 invariant-loop-k l =
-    (length l.entries ≡ length l.initial.entries) × (l.k ≤ l.n) × (filled l.entries (l.e + l.k) l.list (l.j + l.k) (l.n - l.k) ≡ filled l.initial.entries l.e l.list l.j l.n)
+    (length l.entries ≡ length l.initial.entries)
+    × (l.k ≤ l.n)
+    × (filled l.entries (l.e + l.k) l.list (l.j + l.k) (l.n - l.k) ≡ filled l.initial.entries l.e l.list l.j l.n)
 
 abbrev pub decreases-loop-k : goal.decreases-loop-k
 decreases-loop-k l = l.n - l.k

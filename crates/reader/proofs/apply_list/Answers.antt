@@ -42,7 +42,10 @@ apply_run-n-requires c =
     let o = c.loop-at in
     let n = full_next c.args.list.now o.at c.loop-at-test.true o.invariant.1 in
     let h = c.parts-h.ensures in
-    record { lengths = (o.invariant.0, (c.slot_table-slots.ensures, c.held_table-held.ensures)); id_bound = (omega (arith, h.0), omega (arith, h.2), omega (arith, h.3), omega (arith, h.2, n.0), omega arith) }
+    record {
+      lengths = (o.invariant.0, (c.slot_table-slots.ensures, c.held_table-held.ensures));
+      id_bound = (omega (arith, h.0), omega (arith, h.2), omega (arith, h.3), omega (arith, h.2, n.0), omega arith);
+    }
 
 pub overflow_add-n : goal.overflow_add-n
 overflow_add-n c =

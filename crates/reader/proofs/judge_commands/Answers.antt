@@ -1,4 +1,5 @@
--- Two invariants: what is left of the list has the verdict on its commands, and what is left of a command has the command's fault. Assumes nothing.
+-- Two invariants: what is left of the list has the verdict on its commands, and what is left of a command has the command's fault.
+-- Assumes nothing.
 use mathlib.Core.Path.{◌≡◌, sym, ap, ◌∙◌}
 use Prim.Native.Nat.{◌+◌, ◌-◌, ◌≤◌, ◌<◌}
 use native.Mathlib.Omega.{arith}

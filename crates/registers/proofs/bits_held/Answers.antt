@@ -7,16 +7,17 @@ use Rattle.registers.proofs.bits_held.Goals as goal
 use Rattle.registers.proofs.bits_held.Goals.{After-row_for-row}
 
 -- the id and the bits of the row that is looked at
-id-of : (c : After-row_for-row) → id_at c.args.id ≡ get_or c.args.held.now c.row_for-row.result 0
-id-of c = rw (c.requires.1, c.row_for-row.ensures.0)
+id_of : (c : After-row_for-row) → id_at c.args.id ≡ get_or c.args.held.now c.row_for-row.result 0
+id_of c = rw (c.requires.1, c.row_for-row.ensures.0)
 
 bits_of : (c : After-row_for-row) → bits_at c.args.id ≡ get_or c.args.held.now (c.row_for-row.result + 1) 0
 bits_of c = rw (c.requires.1, c.row_for-row.ensures.0)
 
 pub returns-then-held-row : goal.returns-then-held-row
 returns-then-held-row c =
-    sym (bits_of (goal.at.returns-then-held-row c).After-row_for-row) ∙ (row_right c.args.id (id-of (goal.at.returns-then-held-row c).After-row_for-row ∙ c.if-held-row.true)).0
+    sym (bits_of (goal.at.returns-then-held-row c).After-row_for-row) ∙
+    (row_right c.args.id (id_of (goal.at.returns-then-held-row c).After-row_for-row ∙ c.if-held-row.true)).0
 
 pub returns-else-held-row : goal.returns-else-held-row
 returns-else-held-row c =
-    sym (row_none c.args.id (λ e. c.if-held-row.false (sym (id-of (goal.at.returns-else-held-row c).After-row_for-row) ∙ e)))
+    sym (row_none c.args.id (λ e. c.if-held-row.false (sym (id_of (goal.at.returns-else-held-row c).After-row_for-row) ∙ e)))

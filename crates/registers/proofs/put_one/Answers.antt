@@ -12,9 +12,9 @@ use Rattle.registers.proofs.put_one.Goals as goal
 use Rattle.registers.proofs.put_one.Goals.{After-row_for-row, Then-held-row}
 
 -- the id of the row that is looked at
-id-of : (c : After-row_for-row)
+id_of : (c : After-row_for-row)
     → id_at c.args.id ≡ get_or c.args.held.now c.row_for-row.result 0
-id-of c = rw (c.requires.1.1, c.row_for-row.ensures.0)
+id_of c = rw (c.requires.1.1, c.row_for-row.ensures.0)
 
 -- it is the id that is written to, which so has a cell and these bits
 right : (c : Then-held-row)
@@ -22,7 +22,7 @@ right : (c : Then-held-row)
     ≡ bits_of c.args.id)
     × Has c.args.id
 right c =
-    let r = row_right c.args.id (id-of (goal.at.Then-held-row c).After-row_for-row ∙ c.if-held-row.true) in
+    let r = row_right c.args.id (id_of (goal.at.Then-held-row c).After-row_for-row ∙ c.if-held-row.true) in
     let b : bits_at c.args.id ≡ get_or c.args.held.now (c.row_for-row.result + 1) 0 =
     rw (c.requires.1.1, c.row_for-row.ensures.0) in
     (sym b ∙ r.0, r.1)
@@ -59,13 +59,19 @@ returns-then-id-2 c =
     let f = c.if-id.false in
     let g = c.if-id-2.true in
     let put = c.put_light.ensures in
-    record { count = (rw (differs_light_data s a.id a.bytes a.value f g), omega arith); state = rw (put_light_data s a.id a.bytes a.value f g, put.0, put.1) }
+    record {
+      count = (rw (differs_light_data s a.id a.bytes a.value f g), omega arith);
+      state = rw (put_light_data s a.id a.bytes a.value f g, put.0, put.1);
+    }
 
 pub returns : goal.returns
 returns c =
     let a = c.args in
     let s = st a.cells.now a.fog.now a.light.now in
-    let z = row_none a.id (λ e. c.if-held-row.false (sym (id-of (goal.at.returns c).After-row_for-row) ∙ e)) in
+    let z = row_none a.id (λ e. c.if-held-row.false (sym (id_of (goal.at.returns c).After-row_for-row) ∙ e)) in
     let f = c.if-id.false in
     let g = c.if-id-2.false in
-    record { count = (rw (differs_free s a.id a.bytes a.value f g z) (omega arith), omega arith); state = sym (put_free s a.id a.bytes a.value f g z) }
+    record {
+      count = (rw (differs_free s a.id a.bytes a.value f g z) (omega arith), omega arith);
+      state = sym (put_free s a.id a.bytes a.value f g z);
+    }

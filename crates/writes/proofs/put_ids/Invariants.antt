@@ -9,7 +9,10 @@ use Rattle.writes.proofs.put_ids.Given as goal
 
 abbrev pub invariant-loop-m : goal.invariant-loop-m
 invariant-loop-m l =
-    (l.m ≤ l.n) × (l.next ≤ 65535 + l.m) × (l.m < l.n → l.next ≡ get_or (ids_in (expand l.list l.at)) l.m 0) × (length l.ids ≡ length l.initial.ids)
+    (l.m ≤ l.n)
+    × (l.next ≤ 65535 + l.m)
+    × (l.m < l.n → l.next ≡ get_or (ids_in (expand l.list l.at)) l.m 0)
+    × (length l.ids ≡ length l.initial.ids)
     × (l.ids ≡ paste l.initial.ids l.k (ids_in (expand l.list l.at)) l.m)
 
 abbrev pub decreases-loop-m : goal.decreases-loop-m

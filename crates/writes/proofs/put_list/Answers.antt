@@ -47,7 +47,13 @@ put_command-requires c =
     let t = c.loop-at-test.true in
     let m = some c.parts-h.ensures.1 c.if-unmasked.false in
     let w = next_within a.list.now a.ids.now a.masks.now a.values.now o.at o.k _ _ _ o.invariant.4 t m in
-    record { command_fits = ((full_next a.list.now o.at t o.invariant.0).0, omega (arith, w, c.requires.list_in_bounds.0, o.invariant.1)); ids_len = (omega (arith, c.requires.list_in_bounds.1, o.invariant.1, o.invariant.2), omega (arith, c.requires.list_in_bounds.2, o.invariant.1, o.invariant.3)) }
+    record {
+      command_fits = ((full_next a.list.now o.at t o.invariant.0).0, omega (arith, w, c.requires.list_in_bounds.0, o.invariant.1));
+      ids_len = (
+        omega (arith, c.requires.list_in_bounds.1, o.invariant.1, o.invariant.2),
+        omega (arith, c.requires.list_in_bounds.2, o.invariant.1, o.invariant.3),
+      );
+    }
 
 pub overflow_add-k-in-loop-at : goal.overflow_add-k-in-loop-at
 overflow_add-k-in-loop-at c =

@@ -50,7 +50,8 @@ loop-m-init c =
       refl,
       refl,
       refl,
-      put_back l a.at a.k a.ids.now a.masks.now a.values.now b.command_fits.1 b.ids_len _ _ _ (first (goal.at.loop-m-init c).After-parts-h) 1
+      put_back l a.at a.k a.ids.now a.masks.now a.values.now b.command_fits.1 b.ids_len _ _ _
+          (first (goal.at.loop-m-init c).After-parts-h) 1
           (omega arith) (omega arith) _ _ _ (first (goal.at.loop-m-init c).After-parts-h),
     )
 
