@@ -1,5 +1,3 @@
-pub mod Bytes
-pub mod Codes
 pub mod Signed
 pub mod Clamped
 pub mod Results

@@ -17,16 +17,19 @@ use Rattle.combiner.specs.Operands.{Sources, source_of, rgb_operand, alpha_opera
 use Rattle.combiner.specs.Stage.{joined, alpha_mixed, stage_of}
 use Rattle.combiner.specs.Chain.{buffer_after}
 use Rattle.settings.specs.Colours.{colour_of}
-use Rattle.combiner.specs.Words.{rgb_in, each3, rgb_combined, rgb_scaled, own_alpha, alpha_from, colours, from_table, table_after}
+use Rattle.combiner.specs.Words.{rgb_in, each2, each3, Each2, Each3, rgb_combined, rgb_scaled, own_alpha, alpha_from, colours, from_table, table_after}
 use Rattle.combiner.specs.declared.dot.Rgb.{Rgb}
-use Rattle.combiner.proofs.Parts.{source_at, colours_at, colours_set}
+use Rattle.combiner.proofs.Parts.{same_rgb, source_at, colours_at, colours_set}
 
 pub same_joined : {x y : Rgb} {a b : ℕ} → x ≡ y → a ≡ b → joined x a ≡ joined y b
 same_joined p q = rw (p, q)
 
--- a mode's third operand
-pub third : (f : ℕ → ℕ → ℕ → ℕ) {a b c c' : Rgb} → c ≡ c' → each3 f a b c ≡ each3 f a b c'
-third f e = rw e
+-- a mode whose calls return what f says, on three channels
+pub by_two : (f : ℕ → ℕ → ℕ) {a b r : Rgb} → Each2 (λ x y z. z ≡ f x y) a b r → r ≡ each2 f a b
+by_two f h = same_rgb h.0 h.1 h.2
+
+pub by_three : (f : ℕ → ℕ → ℕ → ℕ) {a b c c' r : Rgb} → Each3 (λ x y z w. w ≡ f x y z) a b c r → c ≡ c' → r ≡ each3 f a b c'
+by_three f h e = rw e at (same_rgb h.0 h.1 h.2)
 
 -- the last mode, and codes past it
 pub last_mode : (mode : ℕ) (a b c : Rgb) (dot : ℕ) → 9 ≤ mode → each3 added_multiplied a b c ≡ rgb_combined mode a b c dot

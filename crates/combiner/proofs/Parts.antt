@@ -1,7 +1,7 @@
 -- Colours as words: what a word's parts are, and the table of words. Assumes nothing.
 use mathlib.Core.Path.{◌≡◌, refl}
 use mathlib.Core.List.{List, [], ◌∷◌}
-use Prim.Native.Nat.{ℕ, zero, suc, ◌+◌, ◌-◌, ◌*◌, ◌/◌, ◌%◌, ◌^◌, ◌<◌, ◌≤◌}
+use Prim.Native.Nat.{ℕ, zero, suc, ◌+◌, ◌*◌, ◌/◌, ◌%◌, ◌^◌, ◌<◌, ◌≤◌}
 use native.Mathlib.Omega.{arith}
 use lib.Dec.{eqb}
 use lib.ListN.{get_or, set, get_or-map}
@@ -17,19 +17,6 @@ pub same_rgb : {r g b r' g' b' : ℕ} → r ≡ r' → g ≡ g' → b ≡ b' →
 same_rgb p q s = cc
 
 -- WORDS
-
-pub rgb_back : (r g b : ℕ) → r ≤ 255 → g ≤ 255 → b ≤ 255 → rgb_in (r + g * 0x100 + b * 0x10000) ≡ rgb r g b
-rgb_back r g b hr hg hb = same_rgb (omega arith) (omega arith) (omega arith)
-
-pub grey_back : (x : ℕ) → x ≤ 255 → rgb_in (x * 0x10101) ≡ rgb x x x
-grey_back x h = let e : x * 0x10101 ≡ x + x * 0x100 + x * 0x10000 = omega arith in rw e (rgb_back x x x h h h)
-
-pub one_minus_back : (x : ℕ) → x < 0x100000000
-    → rgb_in (0xFFFFFFFF - x) ≡ rgb (255 - (rgb_in x).red) (255 - (rgb_in x).green) (255 - (rgb_in x).blue)
-one_minus_back x h = same_rgb (omega arith) (omega arith) (omega arith)
-
-pub low_back : (x : ℕ) → rgb_in (x % 0x1000000) ≡ rgb_in x
-low_back x = same_rgb (omega arith) (omega arith) (omega arith)
 
 pub joined_back : (low high : ℕ) → low < 0x1000000 → high ≤ 255 → colour_of (low + high * 0x1000000) ≡ joined (rgb_in low) high
 unfolding colour_of

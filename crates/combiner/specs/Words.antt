@@ -1,6 +1,6 @@
 -- Not of the document: colours as words, by `colour_of` of settings; and the table of colours by code, which the code keeps in one array
 -- and changes from stage to stage.
-use Rattle.std.specs.Prelude.{Bool, ◌&&◌, List, map, ℕ, eqb, get_or, set}
+use Rattle.std.specs.Prelude.{Bool, ◌&&◌, List, map, ℕ, ◌+◌, eqb, get_or, set}
 use Rattle.settings.specs.Ranges.{bits, in_cells}
 use Rattle.settings.specs.Colours.{colour_of}
 use Rattle.settings.specs.Stages.{source_in, operand_in, combiner_in, scale_in, stages_in, buffer_fog_in}
@@ -16,6 +16,7 @@ use Rattle.combiner.specs.Stage.{stage_of}
 use Rattle.combiner.specs.Chain.{buffer_after, combiner_of}
 use Rattle.combiner.specs.declared.Given.{Given}
 use Rattle.combiner.specs.declared.dot.Rgb.{Rgb}
+use Rattle.combiner.specs.declared.stage.StageWords.{StageWords}
 
 -- WORDS
 
@@ -41,6 +42,20 @@ stage_from source operand combiner scale =
       scale = scale_in (bits scale);
     }
 
+-- the words of the stage whose source register is b
+abbrev pub words_in : List ℕ → ℕ → StageWords
+words_in cells b =
+    record {
+      source = get_or cells b 0;
+      operand = get_or cells (b + 1) 0;
+      combiner = get_or cells (b + 2) 0;
+      scale = get_or cells (b + 4) 0;
+    }
+
+-- that stage
+abbrev pub stage_by : List ℕ → ℕ → Stage
+stage_by cells b = let w = words_in cells b in stage_from w.source w.operand w.combiner w.scale
+
 -- THREE CHANNELS AT ONCE
 
 -- a function of one, two or three channels, for red, green and blue
@@ -52,6 +67,14 @@ each2 f a b = rgb (f a.red b.red) (f a.green b.green) (f a.blue b.blue)
 
 abbrev pub each3 : (ℕ → ℕ → ℕ → ℕ) → Rgb → Rgb → Rgb → Rgb
 each3 f a b c = rgb (f a.red b.red c.red) (f a.green b.green c.green) (f a.blue b.blue c.blue)
+
+-- a call of a mode, by what it may return: each channel of the result is what one on that channel returns
+abbrev pub Each2 : (ℕ → ℕ → ℕ → Type 0) → Rgb → Rgb → Rgb → Type 0
+Each2 Returns a b r = Returns a.red b.red r.red × Returns a.green b.green r.green × Returns a.blue b.blue r.blue
+
+abbrev pub Each3 : (ℕ → ℕ → ℕ → ℕ → Type 0) → Rgb → Rgb → Rgb → Rgb → Type 0
+Each3 Returns a b c r =
+    Returns a.red b.red c.red r.red × Returns a.green b.green c.green r.green × Returns a.blue b.blue c.blue r.blue
 
 -- the part of a source that an RGB operand's code names, before "one minus"
 abbrev pub rgb_parts : ℕ → Colour → Rgb

@@ -5,7 +5,7 @@ ghost use Rattle.combiner.specs.Words.{dot_in};
 
 use crate::{modes, packed};
 
-#[derive(Clone, Copy)]
+#[derive(Clone, Copy, Debug, PartialEq, Eq)]
 pub struct Rgb {
     pub red: u8,
     pub green: u8,
@@ -28,7 +28,7 @@ fn at_least_zero(total: i32) -> u32
     requires { nat_abs total ≤ 195075 }
     ensures { (result ≡ at_least_zero total) × (result ≤ 195075) }
 {
-    if total < 0 { 0 } else { total as u32 }
+    total.max(0) as u32
 }
 
 // The total is held to zero before it is divided: the division is of numbers that are not negative.

@@ -23,7 +23,7 @@ mod packed;
 mod stage;
 
 // The colours that are given with a fragment.
-#[derive(Clone, Copy)]
+#[derive(Clone, Copy, Debug, PartialEq, Eq)]
 pub struct Given {
     pub primary: Colour,
     pub fragment_primary: Colour,
@@ -35,6 +35,7 @@ pub struct Given {
 }
 
 // The buffer that the next stage sees; rgb and alpha are this stage's bits of E0.
+#[tactic(auto, using(crate::proofs::Mixed::picked_buffer))]
 fn buffer_after(rgb: u32, alpha: u32, previous: u32, buffer: u32) -> u32
     ensures { colour_of result ≡ buffer_after rgb alpha (record { previous = colour_of previous; buffer = colour_of buffer }) }
 {
@@ -45,36 +46,29 @@ fn buffer_after(rgb: u32, alpha: u32, previous: u32, buffer: u32) -> u32
 }
 
 // The stage whose source register is b, by its bits of E0: its constant, its result and the next stage's buffer go into the table.
-fn step(cells: &[u32], b: usize, rgb: u32, alpha: u32, table: &mut [u32; 16])
-    requires { (length cells.now ≡ 768) × (b < 760) }
+fn step(cells: &[u32; 768], b: u8, rgb: u32, alpha: u32, table: &mut [u32; 16])
     ensures { colours table.new ≡ table_after (stage_in (in_cells cells.now) b) rgb alpha (colours table.old) }
 {
-    let source = cells[b];
-    let operand = cells[b + 1];
-    let combiner = cells[b + 2];
-    let scale = cells[b + 4];
     let previous = table[15];
     let buffer = table[13];
-    table[14] = cells[b + 3];
-    let result = stage::result(table, source, operand, combiner, scale);
+    table[14] = cells[b as usize + 3];
+    let result = stage::result(cells, b, table);
     table[13] = buffer_after(rgb, alpha, previous, buffer);
     table[15] = result;
 }
 
 // Stage 0, as `step` would. E0 has no bit for it, so the buffer stays; and it isn't looked at for being idle: an idle stage 0 hands on
 // zero, which running it gives too.
-fn first_step(cells: &[u32], table: &mut [u32; 16])
-    requires { length cells.now ≡ 768 }
+fn first_step(cells: &[u32; 768], table: &mut [u32; 16])
     ensures { colours table.new ≡ table_after (stage_in (in_cells cells.now) 0xC0) 0 0 (colours table.old) }
 {
     table[14] = cells[0xC3];
-    let result = stage::run_stage(table, cells[0xC0], cells[0xC1], cells[0xC2], cells[0xC4]);
-    table[15] = result;
+    table[15] = stage::run_stage(cells, 0xC0, table);
 }
 
 // All six, in order; E0 has no bit for stages 0 and 5.
-fn run_stages(cells: &[u32], table: &mut [u32; 16])
-    requires { length cells.now ≡ 768 }
+#[tactic(auto, unfolding(crate::specs::Words::table_at_last))]
+fn run_stages(cells: &[u32; 768], table: &mut [u32; 16])
     ensures { colours table.new ≡ table_by cells.now (colours table.old) }
 {
     let update = cells[0xE0];
@@ -87,6 +81,7 @@ fn run_stages(cells: &[u32], table: &mut [u32; 16])
 }
 
 // The table before stage 0, which sees zero as Previous and the buffer, FD, as Previous buffer.
+#[tactic(auto, unfolding(settings::specs::Colours::colour_of))]
 fn first_table(g: Given, buffer: u32) -> [u32; 16]
     ensures { colours result ≡ by_code g black (at_first (colour_of buffer)) }
 {
@@ -126,10 +121,8 @@ fn previous_in(table: &[u32; 16]) -> Colour
     colours::colour_of(table[15])
 }
 
-// The combiner's result for the colours given with a fragment, by the registers of the cells. For `fragment`, which tests their length
-// first.
-pub fn combine(cells: &[u32], g: Given) -> Colour
-    requires { length cells.now ≡ 768 }
+// The combiner's result for the colours given with a fragment, by the registers of the cells.
+pub fn combine(cells: &[u32; 768], g: Given) -> Colour
     ensures { result ≡ combiner_by cells.now g }
 {
     let mut table = first_table(g, cells[0xFD]);

@@ -30,7 +30,7 @@ pub fn over_255(n: u32) -> u32
 pub fn to_byte(n: u32) -> u8
     ensures { result ≡ to_byte n }
 {
-    if n < 255 { n as u8 } else { 255 }
+    n.min(255) as u8
 }
 
 fn product(a: u8, b: u8) -> u32
@@ -48,14 +48,13 @@ pub fn modulate(a: u8, b: u8) -> u8
 pub fn add(a: u8, b: u8) -> u8
     ensures { result ≡ added a b }
 {
-    to_byte(a as u32 + b as u32)
+    a.saturating_add(b)
 }
 
 pub fn add_signed(a: u8, b: u8) -> u8
     ensures { result ≡ added_signed a b }
 {
-    let sum = a as u32 + b as u32;
-    if sum < 128 { 0 } else { to_byte(sum - 128) }
+    to_byte((a as u32 + b as u32).saturating_sub(128))
 }
 
 pub fn interpolate(a: u8, b: u8, c: u8) -> u8
@@ -67,7 +66,7 @@ pub fn interpolate(a: u8, b: u8, c: u8) -> u8
 pub fn subtract(a: u8, b: u8) -> u8
     ensures { result ≡ subtracted a b }
 {
-    if a < b { 0 } else { a - b }
+    a.saturating_sub(b)
 }
 
 pub fn multiply_add(a: u8, b: u8, c: u8) -> u8
@@ -84,6 +83,7 @@ pub fn add_multiply(a: u8, b: u8, c: u8) -> u8
 
 // Alpha by its mode, before its scale. a and b are the first two operands; the third, which its code names of a source, and the dot3 of
 // the first two RGB operands, x and y, are worked out only where the mode asks for them.
+#[tactic(auto, unfolding(crate::specs::Modes::combined))]
 pub fn combine(mode: u32, a: u8, b: u8, code: u32, source: u32, x: u32, y: u32) -> u8
     ensures { result ≡ combined mode a b (alpha_operand code (colour_of source)) (dot_in x y) }
 {
@@ -104,10 +104,11 @@ pub fn combine(mode: u32, a: u8, b: u8, code: u32, source: u32, x: u32, y: u32) 
 pub fn factor(scale: u32) -> u32
     ensures { (result ≡ factor_of scale) × (result ≤ 4) }
 {
-    if scale == 1 {
-        return 2;
+    match scale {
+        1 => 2,
+        2 => 4,
+        _ => 1,
     }
-    if scale == 2 { 4 } else { 1 }
 }
 
 pub fn times(x: u8, factor: u32) -> u8

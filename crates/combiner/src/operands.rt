@@ -8,6 +8,7 @@ use crate::packed;
 
 // The byte of a source that an RGB operand's code names, by a shift: the number has for each half code from 0 up the bit at which the
 // byte begins, 24 for alpha, 0, 8, 16 for red, green, blue, and 32, past the word, where the code names none.
+#[tactic(auto, using(crate::proofs::Parts::part_by_shift))]
 fn byte_part(code: u32, x: u32) -> u8
     ensures { result ≡ rgb_part code (colour_of x) 0 }
 {
@@ -16,6 +17,7 @@ fn byte_part(code: u32, x: u32) -> u8
 }
 
 // An even code and the odd one after it name the same part: the channels' own, or one byte of the source for all three.
+#[tactic(auto, unfolding(settings::specs::Colours::colour_of))]
 fn rgb_part(code: u32, x: u32) -> u32
     ensures { rgb_in result ≡ rgb_parts code (colour_of x) }
 {
@@ -40,6 +42,7 @@ pub fn rgb_operand(code: u32, x: u32) -> u32
 }
 
 // By a shift: alpha is at bit 24 and codes 2, 4, 6 are the bytes from bit 0 up.
+#[tactic(auto, using(crate::proofs::Parts::alpha_by_shift))]
 fn alpha_part(code: u32, x: u32) -> u8
     ensures { result ≡ alpha_part code (colour_of x) }
 {

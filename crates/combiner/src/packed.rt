@@ -31,6 +31,7 @@ pub fn grey(x: u8) -> u32
 }
 
 // The red, green and blue of one word, and the alpha of another.
+#[tactic(auto, using(crate::proofs::Parts::joined_alpha))]
 pub fn join_alpha(low: u32, high: u32) -> u32
     ensures { colour_of result ≡ joined (rgb_in low) (colour_of high).alpha }
 {

@@ -16,7 +16,9 @@ use Rattle.words.specs.declared.Header.{Header}
 use Rattle.words.proofs.Laws.{OneMask, kept_dropped, kept_all, allowed_fault}
 use Rattle.registers.specs.Held.{bits_of}
 use Rattle.registers.specs.State.{State}
+use Rattle.registers.specs.declared.lent.Lent.{Lent}
 use Rattle.registers.specs.Applied.{apply, apply_all, differs, difference, differences}
+use Rattle.registers.proofs.Whole.{cells_long, cells_words}
 use Rattle.registers.proofs.Lookup.{held_has}
 use Rattle.registers.proofs.Differences.{differs_held, differs_free, no_difference_same, differences_none, differences_more}
 use Rattle.commands.specs.Run.{run_from, run_with}
@@ -49,6 +51,9 @@ no_bits old v h =
 pub record Cells32 (cells : List ℕ) : Type 0 where
   pub long : length cells ≡ 768
   pub small : (i : ℕ) → get_or cells i 0 < 0x100000000
+
+pub lent_cells : (l : Lent) → Cells32 l.cells.now
+lent_cells l = record { long = cells_long l; small = cells_words l }
 
 module _ (s : State) (c : Cells32 s.cells) where
   -- ONE WRITE

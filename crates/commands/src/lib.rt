@@ -3,18 +3,20 @@
 // The contracts cite specs/Run.antt, specs/ToOne.antt, specs/Changes.antt and specs/Clear.antt.
 #![tactic(auto)]
 
-ghost use Rattle.std.specs.Prelude.{◌≡◌, List, ℕ, ◌+◌, ◌≤◌, ◌<◌, min, eqb, length};
+ghost use Rattle.std.specs.Prelude.{◌≡◌, List, ℕ, ◌+◌, ◌≤◌, ◌<◌, eqb, length};
 ghost use Rattle.numbers.specs.Pick.{pick};
 ghost use Rattle.numbers.specs.Bits.{merge};
 ghost use Rattle.words.specs.Header.{adds_with};
-ghost use Rattle.registers.specs.State.{st, Lengths};
-ghost use Rattle.registers.specs.Tables.{LookupTables};
+ghost use Rattle.registers.specs.State.{st};
+ghost use Rattle.registers.specs.Lent.{lent, buffers};
 ghost use Rattle.registers.specs.Applied.{apply_all, differences};
 ghost use Rattle.commands.specs.Run.{run_from, run_with};
 ghost use Rattle.commands.specs.ToOne.{ToOne};
 ghost use Rattle.commands.specs.Changes.{change, changes};
 ghost use Rattle.commands.specs.Clear.{last_id, clear};
 
+use registers::held::HeldTable;
+use registers::lent::Lent;
 use words::Header;
 
 // The last id of a command with `count` extra parameters.
@@ -46,89 +48,71 @@ pub fn is_clear(first: u32, last: u32, mask: u32) -> bool
 // A command to rising ids, one write after another: its first value is `first`, the others stand in `list` from `from` on. Tells how many
 // of its writes made a difference.
 fn apply_rising(
-    cells: &mut [u32],
-    fog: &mut [u32],
-    light: &mut [u32],
-    slots: &[u8; 256],
-    held: &[u32; 132],
+    state: &mut Lent<'_>,
+    table: &HeldTable,
     h: Header,
     first: u32,
     list: &[u32],
     from: usize,
 ) -> u32
-    requires lengths { Lengths cells.old fog.old light.old × LookupTables slots.now held.now }
     requires id_bound { (h.id < 0x20000) × (h.count < 256) × (h.step ≡ 1) × (from + h.count ≤ length list.now) }
-    ensures count { result ≡ differences (st cells.old fog.old light.old) (run_with h first list.now from) }
-    ensures state { st cells.new fog.new light.new
-        ≡ apply_all (st cells.old fog.old light.old) (run_with h first list.now from) }
+    ensures same { buffers state.new ≡ buffers state.old }
+    ensures count { result ≡ differences (lent state.old) (run_with h first list.now from) }
+    ensures state { lent state.new ≡ apply_all (lent state.old) (run_with h first list.now from) }
 {
     let mask = h.mask;
     let bytes = ports::spread_mask(mask);
-    let mut n = registers::put_one(cells, fog, light, slots, held, h.id, bytes, first, 0);
-    let mut id = h.id + 1;
-    let mut left = h.count;
-    let mut j = from;
-    while 0 < left {
-        n = registers::put_one(cells, fog, light, slots, held, id, bytes, list[j], n);
-        j += 1;
-        id += 1;
-        left -= 1;
+    let mut n = state.put_one(table, h.id, bytes, first, 0);
+    for k in 0..h.count {
+        let id = h.id + 1 + k;
+        let value = list[from + k as usize];
+        n = state.put_one(table, id, bytes, value, n);
     }
     n
 }
 
-fn least(a: usize, b: usize) -> usize
-    ensures { result ≡ min a b }
+// How often a cell that holds `c` changes by one to three values. Always three comparisons: where values lack, the last stands in, which
+// changes nothing, so that no branch goes by their number.
+fn few_changes(e: u32, old: u32, c: u32, values: &[u32]) -> u32
+    requires { (0 < length values.now) × (length values.now ≤ 3) }
+    ensures { (result ≡ changes e old c values.now 0 (length values.now)) × (result ≤ 3) }
 {
-    if a < b { a } else { b }
-}
-
-// How often a cell that holds `c` changes by one to three values, which stand in `list` from `from` on. Always three comparisons: where
-// values lack, the last stands in, which changes nothing, so that no branch goes by their number.
-fn few_changes(e: u32, old: u32, c: u32, list: &[u32], from: usize, count: u32) -> u32
-    requires { (0 < count) × (count ≤ 3) × (from + count ≤ length list.now) }
-    ensures { (result ≡ changes e old c list.now from count) × (result ≤ 3) }
-{
-    let last = count as usize - 1;
-    let one = ports::merged(e, old, list[from]);
-    let two = ports::merged(e, old, list[from + least(last, 1)]);
-    let three = ports::merged(e, old, list[from + last]);
+    let last = values.len() - 1;
+    let one = ports::merged(e, old, values[0]);
+    let two = ports::merged(e, old, values[last.min(1)]);
+    let three = ports::merged(e, old, values[last]);
     registers::changed(c, one) + registers::changed(one, two) + registers::changed(two, three)
 }
 
 // The same by any number of values. Each goes into the cell as it was at first, so that none waits for the one before it.
-fn many_changes(e: u32, old: u32, c: u32, list: &[u32], from: usize, count: u32) -> u32
-    requires { (count < 256) × (from + count ≤ length list.now) }
-    ensures { (result ≡ changes e old c list.now from count) × (result ≤ count) }
+fn many_changes(e: u32, old: u32, c: u32, values: &[u32]) -> u32
+    requires { length values.now < 256 }
+    ensures { (result ≡ changes e old c values.now 0 (length values.now)) × (result ≤ length values.now) }
 {
     let mut cell = c;
     let mut n: u32 = 0;
-    let mut left = count;
-    let mut k = from;
-    while 0 < left {
-        let next = ports::merged(e, old, list[k]);
+    for value in values {
+        let next = ports::merged(e, old, *value);
         n += registers::changed(cell, next);
         cell = next;
-        k += 1;
-        left -= 1;
     }
     n
 }
 
-// How often a cell that holds `old` changes by `first` and then by the values that stand in `list` from `from` on.
-fn count_changes(e: u32, old: u32, first: u32, list: &[u32], from: usize, count: u32) -> u32
-    requires { (count < 256) × (from + count ≤ length list.now) }
-    ensures { result ≡ change old (merge e old first) + changes e old (merge e old first) list.now from count }
+// How often a cell that holds `old` changes by `first` and then by `values`.
+fn count_changes(e: u32, old: u32, first: u32, values: &[u32]) -> u32
+    requires { length values.now < 256 }
+    ensures { result ≡ change old (merge e old first) + changes e old (merge e old first) values.now 0 (length values.now) }
 {
     let c = ports::merged(e, old, first);
     let n = registers::changed(old, c);
-    if count == 0 {
+    if values.len() == 0 {
         return n;
     }
-    if count <= 3 {
-        return n + few_changes(e, old, c, list, from, count);
+    if values.len() <= 3 {
+        return n + few_changes(e, old, c, values);
     }
-    n + many_changes(e, old, c, list, from, count)
+    n + many_changes(e, old, c, values)
 }
 
 // The last of a command's values, where `last` is that of its extra parameters.
@@ -141,21 +125,19 @@ fn last_value(first: u32, count: u32, last: u32) -> u32
 // A command to one id that is no port's data: of its values the last decides, and each counts that changes the cell. A word stands before
 // `from`, so that there is one to look at even where there are no others.
 fn apply_same(
-    cells: &mut [u32],
-    slots: &[u8; 256],
-    held: &[u32; 132],
+    cells: &mut [u32; 768],
+    table: &HeldTable,
     h: Header,
     first: u32,
     list: &[u32],
     from: usize,
 ) -> u32
-    requires cells_len { (length cells.old ≡ 768) × LookupTables slots.now held.now }
     requires to_one { ToOne h × (h.count < 256) × (from + h.count ≤ length list.now) × (0 < from) }
     ensures count { (fog light : List ℕ) → result ≡ differences (st cells.old fog light) (run_with h first list.now from) }
     ensures state { (fog light : List ℕ) → st cells.new fog light
         ≡ apply_all (st cells.old fog light) (run_with h first list.now from) }
 {
-    let bits = registers::bits_held(slots, held, h.id);
+    let bits = table.bits_of(h.id);
     if bits == 0 {
         return 0;
     }
@@ -164,27 +146,25 @@ fn apply_same(
     let old = cells[i];
     let value = last_value(first, h.count, list[from + h.count as usize - 1]);
     cells[i] = ports::merged(e, old, value);
-    count_changes(e, old, first, list, from, h.count)
+    count_changes(e, old, first, &list[from..from + h.count as usize])
 }
 
 // Writes to one id that is no port's data, one for each of the `h.count` values that stand in `list` from `from` on: as above, without a
 // first value apart.
 pub fn apply_values(
-    cells: &mut [u32],
-    slots: &[u8; 256],
-    held: &[u32; 132],
+    cells: &mut [u32; 768],
+    table: &HeldTable,
     h: Header,
     list: &[u32],
     from: usize,
 ) -> u32
-    requires cells_len { (length cells.old ≡ 768) × LookupTables slots.now held.now }
     requires to_one { ToOne h × (h.count < 256) × (from + h.count ≤ length list.now) }
     ensures count { (fog light : List ℕ) → result
         ≡ differences (st cells.old fog light) (run_from list.now from h.count h.id h.mask 0) }
     ensures state { (fog light : List ℕ) → st cells.new fog light
         ≡ apply_all (st cells.old fog light) (run_from list.now from h.count h.id h.mask 0) }
 {
-    let bits = registers::bits_held(slots, held, h.id);
+    let bits = table.bits_of(h.id);
     if bits == 0 {
         return 0;
     }
@@ -196,42 +176,38 @@ pub fn apply_values(
     let e = bits & ports::spread_mask(mask);
     let old = cells[i];
     cells[i] = ports::merged(e, old, list[from + h.count as usize - 1]);
-    many_changes(e, old, old, list, from, h.count)
+    many_changes(e, old, old, &list[from..from + h.count as usize])
 }
 
 // The writes of a command with the header `h`, by what it writes to: a port's data, one other id, or ids that rise. Its first value is
 // `first`, the others stand in `list` from `from` on, which is not its start. Tells how many of them made a difference. Its mask isn't
 // looked at: allowed writes of mask 0, which belong to no expansion, change nothing (law `kept_same`).
 pub fn apply_run(
-    cells: &mut [u32],
-    fog: &mut [u32],
-    light: &mut [u32],
-    slots: &[u8; 256],
-    held: &[u32; 132],
+    state: &mut Lent<'_>,
+    table: &HeldTable,
     h: Header,
     first: u32,
     list: &[u32],
     from: usize,
 ) -> u32
-    requires lengths { Lengths cells.old fog.old light.old × LookupTables slots.now held.now }
     requires id_bound { (h.id < 0x20000) × (h.count < 256) × (h.step ≤ 1) × (from + h.count ≤ length list.now) × (0 < from) }
-    ensures count { result ≡ differences (st cells.old fog.old light.old) (run_with h first list.now from) }
-    ensures state { st cells.new fog.new light.new
-        ≡ apply_all (st cells.old fog.old light.old) (run_with h first list.now from) }
+    ensures same { buffers state.new ≡ buffers state.old }
+    ensures count { result ≡ differences (lent state.old) (run_with h first list.now from) }
+    ensures state { lent state.new ≡ apply_all (lent state.old) (run_with h first list.now from) }
 {
     let id = h.id;
     if h.step != 0 {
-        return apply_rising(cells, fog, light, slots, held, h, first, list, from);
+        return apply_rising(state, table, h, first, list, from);
     }
     if (0xE8 <= id) & (id <= 0xEF) {
-        ports::put_fog(cells, fog, first);
-        ports::upload_fog(cells, fog, list, from, h.count);
+        ports::put_fog(state.cells, state.fog, first);
+        ports::upload_fog(state.cells, state.fog, list, from, h.count);
         return h.count + 1;
     }
     if (0x1C8 <= id) & (id <= 0x1CF) {
-        ports::put_light(cells, light, first);
-        ports::upload_light(cells, light, list, from, h.count);
+        ports::put_light(state.cells, state.light, first);
+        ports::upload_light(state.cells, state.light, list, from, h.count);
         return h.count + 1;
     }
-    apply_same(cells, slots, held, h, first, list, from)
+    apply_same(state.cells, table, h, first, list, from)
 }

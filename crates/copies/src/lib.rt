@@ -2,71 +2,51 @@
 #![tactic(auto)]
 
 ghost use Rattle.std.specs.Prelude.{◌≡◌, ◌<◌, length};
-ghost use Rattle.registers.specs.State.{st, Lengths};
-ghost use Rattle.registers.specs.Tables.{LookupTables};
+ghost use Rattle.registers.specs.State.{st};
 ghost use Rattle.copies.specs.Copy.{cell_taking, entry_taking, taking, taken};
 
-fn id_of(i: usize) -> u32
-    requires { i < 768 }
-    ensures { result ≡ i }
-{
-    i as u32
-}
+use registers::held::HeldTable;
 
 // The cell of `id`, with the held bits of `new`.
-fn cell_taken(slots: &[u8; 256], held: &[u32; 132], id: u32, old: u32, new: u32) -> u32
-    requires { LookupTables slots.now held.now }
+fn cell_taken(table: &HeldTable, id: u32, old: u32, new: u32) -> u32
     ensures { result ≡ cell_taking id old new }
 {
-    let bits = registers::bits_held(slots, held, id);
+    let bits = table.bits_of(id);
     if bits == 0 {
         return old;
     }
     ports::merged(bits, old, new)
 }
 
-// An entry, with the low 24 bits of `new`.
-fn entry_taken(old: u32, new: u32) -> u32
-    ensures { result ≡ entry_taking 0 old new }
-{
-    old / 0x1000000 * 0x1000000 + new % 0x1000000
-}
-
-fn take_cells(to: &mut [u32], from: &[u32])
-    requires { (length to.old ≡ 768) × (length from.now ≡ 768) }
+fn take_cells(to: &mut [u32; 768], from: &[u32; 768])
     ensures { to.new ≡ taking cell_taking 768 to.old from.now }
 {
-    let slots = registers::held::slot_table();
-    let held = registers::held::held_table();
-    let mut i: usize = 0;
-    while i < 768 {
-        to[i] = cell_taken(&slots, &held, id_of(i), to[i], from[i]);
-        i += 1;
+    let table = HeldTable::new();
+    for id in 0..768u32 {
+        let i = id as usize;
+        to[i] = cell_taken(&table, id, to[i], from[i]);
     }
 }
 
+// Not by `zip`: after a loop over `iter_mut` and `zip` nothing is known of what it wrote.
 fn take_entries(to: &mut [u32], from: &[u32])
     requires { length to.old ≡ length from.now }
     ensures { to.new ≡ taking entry_taking (length from.now) to.old from.now }
 {
-    let mut i: usize = 0;
-    while i < from.len() {
-        to[i] = entry_taken(to[i], from[i]);
-        i += 1;
+    for (i, entry) in to.iter_mut().enumerate() {
+        *entry = ports::entered(*entry, from[i]);
     }
 }
 
 // The held bits and the entries of one state go to another.
 pub fn take_state(
-    cells: &mut [u32],
-    fog: &mut [u32],
-    light: &mut [u32],
-    from_cells: &[u32],
-    from_fog: &[u32],
-    from_light: &[u32],
+    cells: &mut [u32; 768],
+    fog: &mut [u32; 128],
+    light: &mut [u32; 6144],
+    from_cells: &[u32; 768],
+    from_fog: &[u32; 128],
+    from_light: &[u32; 6144],
 )
-    requires lengths { Lengths cells.old fog.old light.old }
-    requires from_lengths { Lengths from_cells.now from_fog.now from_light.now }
     ensures { st cells.new fog.new light.new
         ≡ taken (st cells.old fog.old light.old)
         (st from_cells.now from_fog.now from_light.now) }

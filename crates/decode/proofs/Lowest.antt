@@ -1,4 +1,4 @@
--- The id of a refusal 13 holds a code without a name, and no lower id does; a state that is decoded has none. Assumes nothing.
+-- The id of a refusal CodeWithoutName holds a code without a name, and no lower id does; a state that is decoded has none. Assumes nothing.
 use mathlib.Core.Path.{◌≡◌, refl, ap, ◌∙◌}
 use mathlib.Core.Bool.{Bool, true, false, not, ◌&&◌, ◌||◌, false≢true}
 use mathlib.Core.List.{List, [], ◌∷◌}
@@ -12,7 +12,8 @@ use Rattle.registers.specs.State.{State, sized}
 use Rattle.decode.specs.Codes.{Check, check, stage_checks, frame_checks, checks, first_of, lowest, lacks_at, any_of, any_lacks}
 use Rattle.decode.specs.Decoded.{number_of, values_of, settings_of, nameless, nameless_id, refusal, decoded_of}
 use Rattle.settings.specs.declared.records.Settings.{Settings}
-use Rattle.decode.specs.declared.Decoded.TheVariants.{Held}
+use Rattle.words.specs.declared.Reason.TheVariants.{BufferLength, CodeWithoutName}
+use Rattle.std.specs.Prelude.{Ok}
 use Rattle.decode.proofs.First.{none_first}
 
 -- ids rise from above n
@@ -87,19 +88,19 @@ not_so false h = refl
 
 -- an answer's shape: `b` for the lengths, `e` for no code without a name
 by_refusal : (b e : Bool) (n i : ℕ) (x : Settings) → eqb n 0 ≡ e
-    → pick b (pick e (Held x) (refusal 13 n)) (refusal 6 0) ≡ refusal 13 i → (n ≡ i) × (n ≡ 0 → ⊥)
+    → pick b (pick e (Ok x) (refusal CodeWithoutName n)) (refusal BufferLength 0) ≡ refusal CodeWithoutName i → (n ≡ i) × (n ≡ 0 → ⊥)
 by_refusal true true n i x t q = let z = ap number_of q in absurd (omega arith)
 by_refusal true false n i x t q = let z = ap values_of q in (cc, eqb-false n 0 t)
 by_refusal false e n i x t q = let z = ap number_of q in absurd (omega arith)
 
 by_held : (b e : Bool) (n : ℕ) (x y : Settings) → eqb n 0 ≡ e
-    → pick b (pick e (Held x) (refusal 13 n)) (refusal 6 0) ≡ Held y → n ≡ 0
+    → pick b (pick e (Ok x) (refusal CodeWithoutName n)) (refusal BufferLength 0) ≡ Ok y → n ≡ 0
 by_held true true n x y t q = eqb-true n 0 t
 by_held true false n x y t q = let z = ap number_of q in absurd (omega arith)
 by_held false e n x y t q = let z = ap number_of q in absurd (omega arith)
 
 -- THE REFUSED ID IS THE LOWEST
-pub refused_lowest : (s : State) (i : ℕ) → decoded_of s ≡ refusal 13 i → (nameless s i ≡ true) × ((j : ℕ) → nameless s j ≡ true → i ≤ j)
+pub refused_lowest : (s : State) (i : ℕ) → decoded_of s ≡ refusal CodeWithoutName i → (nameless s i ≡ true) × ((j : ℕ) → nameless s j ≡ true → i ≤ j)
 unfolding decoded_of
 refused_lowest s i e =
     let q = by_refusal (sized s) (eqb (nameless_id s) 0) (nameless_id s) i (settings_of s) refl e in
@@ -107,7 +108,7 @@ refused_lowest s i e =
     (l.holds (λ z. q.1 (q.0 ∙ z)), λ j h. (l.below j h).1)
 
 -- a state that is decoded has a name for every code
-pub held_named : (s : State) (x : Settings) → decoded_of s ≡ Held x → (j : ℕ) → nameless s j ≡ false
+pub held_named : (s : State) (x : Settings) → decoded_of s ≡ Ok x → (j : ℕ) → nameless s j ≡ false
 unfolding decoded_of
 held_named s x e j =
     let z = by_held (sized s) (eqb (nameless_id s) 0) (nameless_id s) (settings_of s) x refl e in

@@ -16,6 +16,7 @@ ghost use Rattle.decode.specs.Codes.{stage_checks, frame_checks, checks, first_o
 // have one.
 
 // Left for 7..Ch: where d differs from c AND (a OR b), and d OR (a AND b).
+#[tactic(auto, using(crate::proofs::Bitwise::source_codes))]
 fn sources_lack(x: u32, y: u32) -> u64
     ensures { not (eqb result 0) ≡ (source_lacks (source_in (bits x)) || source_lacks (source_in (bits y))) }
 {
@@ -30,6 +31,7 @@ fn source_lacks(x: u32) -> bool
 }
 
 // Left for 6, 7, Ah, Bh, Eh, Fh: b AND (c OR d). Every alpha operand has a name.
+#[tactic(auto, using(crate::proofs::Bitwise::operand_codes))]
 fn operands_lack(x: u32, y: u32) -> u64
     ensures { not (eqb result 0) ≡ (operand_lacks (operand_in (bits x)) || operand_lacks (operand_in (bits y))) }
 {
@@ -53,6 +55,7 @@ fn combiner_lacks(x: u32) -> bool
 }
 
 // Left for 3: a AND b.
+#[tactic(auto, using(crate::proofs::Bitwise::scale_codes))]
 fn scales_lack(x: u32, y: u32) -> u64
     ensures { not (eqb result 0) ≡ (scale_lacks (scale_in (bits x)) || scale_lacks (scale_in (bits y))) }
 {
@@ -112,23 +115,24 @@ fn first_of(lacks: bool, id: usize, rest: usize) -> usize
 }
 
 // The first id of the stage whose source register is b, else the rest.
-fn stage_first(cells: &[u32], b: usize, rest: usize) -> usize
-    requires { (length cells.now ≡ 768) × (b < 760) }
+#[tactic(auto, unfolding(crate::specs::Codes::stage_checks, crate::specs::Codes::first_of))]
+fn stage_first(cells: &[u32; 768], b: u8, rest: usize) -> usize
     ensures { result ≡ first_of (stage_checks b (stage_in (in_cells cells.now) b)) rest }
 {
-    let source = cells[b];
-    let operand = cells[b + 1];
-    let combiner = cells[b + 2];
-    let scale = cells[b + 4];
-    let last = first_of(scale_lacks(scale), b + 4, rest);
-    let third = first_of(combiner_lacks(combiner), b + 2, last);
-    let second = first_of(operand_lacks(operand), b + 1, third);
-    first_of(source_lacks(source), b, second)
+    let id = b as usize;
+    let source = cells[id];
+    let operand = cells[id + 1];
+    let combiner = cells[id + 2];
+    let scale = cells[id + 4];
+    let last = first_of(scale_lacks(scale), id + 4, rest);
+    let third = first_of(combiner_lacks(combiner), id + 2, last);
+    let second = first_of(operand_lacks(operand), id + 1, third);
+    first_of(source_lacks(source), id, second)
 }
 
 // The first of 100, 101, 116, 117; 0 for none.
-fn frame_first(cells: &[u32]) -> usize
-    requires { length cells.now ≡ 768 }
+#[tactic(auto, unfolding(crate::specs::Codes::frame_checks, crate::specs::Codes::first_of))]
+fn frame_first(cells: &[u32; 768]) -> usize
     ensures { result ≡ first_of (frame_checks (framebuffer_in (in_cells cells.now))) 0 }
 {
     let operation = cells[0x100];
@@ -142,8 +146,8 @@ fn frame_first(cells: &[u32]) -> usize
 }
 
 // The lowest id of all; 0 for none.
-pub fn lowest_id(cells: &[u32]) -> usize
-    requires { length cells.now ≡ 768 }
+#[tactic(auto, using(crate::proofs::First::lowest_checks), unfolding(settings::specs::Settings::settings_in))]
+pub fn lowest_id(cells: &[u32; 768]) -> usize
     ensures { result ≡ lowest (checks (settings_in (in_cells cells.now))) }
 {
     let update = cells[0xE0];
@@ -173,11 +177,12 @@ fn modes_lack(x: u32, y: u32) -> u64
 }
 
 // Not 0 where one of the two stages whose source registers are a and b holds a code without a name, or the rest isn't 0.
-fn two_stages(cells: &[u32], a: usize, b: usize, rest: u64) -> u64
-    requires { (length cells.now ≡ 768) × (a < 760) × (b < 760) }
+#[tactic(auto, using(crate::proofs::First::any_two, crate::proofs::Bitwise::or_any))]
+fn two_stages(cells: &[u32; 768], a: u8, b: u8, rest: u64) -> u64
     ensures { not (eqb result 0) ≡ any_of (stage_checks a (stage_in (in_cells cells.now) a))
         (any_of (stage_checks b (stage_in (in_cells cells.now) b)) (not (eqb rest 0))) }
 {
+    let (a, b) = (a as usize, b as usize);
     let sources = sources_lack(cells[a], cells[b]);
     let operands = operands_lack(cells[a + 1], cells[b + 1]);
     let modes = modes_lack(cells[a + 2], cells[b + 2]);
@@ -186,8 +191,8 @@ fn two_stages(cells: &[u32], a: usize, b: usize, rest: u64) -> u64
 }
 
 // 100, 101, 116 or 117 holds one, or the rest does.
-fn frame_lacks(cells: &[u32], rest: bool) -> bool
-    requires { length cells.now ≡ 768 }
+#[tactic(auto, unfolding(crate::specs::Codes::frame_checks, crate::specs::Codes::any_of))]
+fn frame_lacks(cells: &[u32; 768], rest: bool) -> bool
     ensures { result ≡ any_of (frame_checks (framebuffer_in (in_cells cells.now))) rest }
 {
     let operation = cells[0x100];
@@ -200,8 +205,8 @@ fn frame_lacks(cells: &[u32], rest: bool) -> bool
 }
 
 // Some register holds one.
-pub fn any_lacks(cells: &[u32]) -> bool
-    requires { length cells.now ≡ 768 }
+#[tactic(auto, using(crate::proofs::First::any_checks, crate::proofs::Bitwise::or_any), unfolding(settings::specs::Settings::settings_in))]
+pub fn any_lacks(cells: &[u32; 768]) -> bool
     ensures { result ≡ any_lacks (checks (settings_in (in_cells cells.now))) }
 {
     let update = cells[0xE0];

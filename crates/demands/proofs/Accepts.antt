@@ -11,21 +11,20 @@ use Rattle.words.specs.Writes.{Write, fault_of, allowed}
 use Rattle.words.proofs.Laws.{allowed_fault}
 use Rattle.registers.specs.State.{State, sized}
 use Rattle.registers.specs.Applied.{apply, differs}
-use Rattle.registers.specs.declared.Written.{Written}
-use Rattle.registers.specs.declared.Written.TheVariants as written
 use Rattle.decode.specs.Decoded.{settings_of, nameless}
-use Rattle.decode.specs.declared.Decoded.{Decoded}
-use Rattle.decode.specs.declared.Decoded.TheVariants as decoded
 use Rattle.combiner.specs.declared.Given.{Given}
 use Rattle.stores.specs.declared.Stored.{Stored}
 use Rattle.fragment.specs.Drawn.{unbuilt_at, outcome_of}
-use Rattle.fragment.specs.declared.Drawn.{Drawn}
-use Rattle.fragment.specs.declared.Drawn.TheVariants as drawn
 use Rattle.demands.specs.Refusals.{WriteRefused}
 use Rattle.demands.specs.FragmentRefusals.{DecodeRefused, DrawRefused, top_of}
 use Rattle.demands.proofs.Refusals.{fault_numbered}
 use Rattle.demands.proofs.Calls.{WriteCall, DecodeCall, DrawCall}
 use Rattle.demands.proofs.EndToEnd.{write_refuses, write_leaves, decode_refuses, decode_answers, draw_refuses, draw_answers}
+use Rattle.std.specs.Prelude.{Result, Ok, Err}
+use Rattle.words.specs.declared.Refusal.{Refusal}
+use Rattle.settings.specs.declared.records.Settings.{Settings}
+use Rattle.fragment.specs.declared.Outcome.{Outcome}
+use Rattle.words.specs.Reasons.{number_of}
 
 clash : {b : Bool} → b ≡ true → b ≡ false → ⊥
 clash t f = false≢true (sym f ∙ t)
@@ -39,29 +38,29 @@ not_refused s w n p z m a r =
     ⊎_elim (λ x. clash z x.1)
     (⊎_elim (λ x. omega (arith, x.2, m)) (λ x. fault_numbered n x.2 (sym x.3 ∙ no_fault))) r.why
 
-pub write_accepts : {s t : State} {w : Write} {a : Written} → WriteCall s w a t → sized s ≡ true → w.mask ≤ 15
-    → allowed w.id w.mask ≡ true → (a ≡ written.Done (differs s w.id (spread w.mask) w.value)) × (t ≡ apply s w)
-write_accepts {a = written.Done d} c z m e = (ap written.Done (write_leaves c).4, (write_leaves c).3)
-write_accepts {s} {t} {w} {a = written.Refused why} c z m e = absurd (not_refused s w _ _ z m e (write_refuses c).1)
+pub write_accepts : {s t : State} {w : Write} {a : Result Bool Refusal} → WriteCall s w a t → sized s ≡ true → w.mask ≤ 15
+    → allowed w.id w.mask ≡ true → (a ≡ Ok (differs s w.id (spread w.mask) w.value)) × (t ≡ apply s w)
+write_accepts {a = Ok d} c z m e = (ap Ok (write_leaves c).4, (write_leaves c).3)
+write_accepts {s} {t} {w} {a = Err why} c z m e = absurd (not_refused s w _ _ z m e (write_refuses c).1)
 
 -- A STATE of the right lengths in which no register holds a code without a name is decoded
-pub decode_accepts : {s : State} {a : Decoded} → DecodeCall s a → sized s ≡ true → ((j : ℕ) → nameless s j ≡ false)
-    → a ≡ decoded.Held (settings_of s)
-decode_accepts {a = decoded.Held x} c z n = ap decoded.Held (decode_answers c).2
-decode_accepts {s} {a = decoded.Refused why} c z n = absurd (go (decode_refuses c))
+pub decode_accepts : {s : State} {a : Result Settings Refusal} → DecodeCall s a → sized s ≡ true → ((j : ℕ) → nameless s j ≡ false)
+    → a ≡ Ok (settings_of s)
+decode_accepts {a = Ok x} c z n = ap Ok (decode_answers c).2
+decode_accepts {s} {a = Err why} c z n = absurd (go (decode_refuses c))
   where
-    go : DecodeRefused s why.number why.place → ⊥
+    go : DecodeRefused s (number_of why.reason) why.place → ⊥
     go (inl r) = clash z r.2
     go (inr r) = clash r.why (n why.place)
 
 -- A FRAGMENT on such a state, where it is built and both depths are within the format, is drawn
-pub draw_accepts : {s : State} {g : Given} {incoming : ℕ} {stored : Stored} {a : Drawn} → DrawCall s g incoming stored a
+pub draw_accepts : {s : State} {g : Given} {incoming : ℕ} {stored : Stored} {a : Result Outcome Refusal} → DrawCall s g incoming stored a
     → sized s ≡ true → ((j : ℕ) → nameless s j ≡ false) → ((j : ℕ) → unbuilt_at (settings_of s) j ≡ false)
-    → incoming ≤ top_of s → stored.depth ≤ top_of s → a ≡ drawn.Done (outcome_of (settings_of s) g incoming stored)
-draw_accepts {a = drawn.Done o} c z n b h k = ap drawn.Done (draw_answers c).4
-draw_accepts {s} {g} {incoming} {stored} {a = drawn.Refused why} c z n b h k = absurd (go (draw_refuses c))
+    → incoming ≤ top_of s → stored.depth ≤ top_of s → a ≡ Ok (outcome_of (settings_of s) g incoming stored)
+draw_accepts {a = Ok o} c z n b h k = ap Ok (draw_answers c).4
+draw_accepts {s} {g} {incoming} {stored} {a = Err why} c z n b h k = absurd (go (draw_refuses c))
   where
-    go : DrawRefused s incoming stored.depth why.number why.place → ⊥
+    go : DrawRefused s incoming stored.depth (number_of why.reason) why.place → ⊥
     go (inl (inl r)) = clash z r.2
     go (inl (inr r)) = clash r.why (n why.place)
     go (inr (inl r)) = clash r.why (b why.place)

@@ -1,21 +1,20 @@
 -- States that agree on what is held: the relation, and that a masked replacement keeps it. Assumes nothing.
 use mathlib.Core.Path.{◌≡◌, refl, sym, ap, ◌∙◌}
-use mathlib.Core.Bool.{Bool, true, false, ◌&&◌}
-use mathlib.Core.List.{List, [], ◌∷◌}
+use mathlib.Core.Bool.{Bool, true, false}
+use mathlib.Core.List.{List}
 use Prim.Native.Nat.{ℕ, zero, suc, ◌%◌, ◌^◌, ◌<◌}
 use native.Mathlib.Decide.{dec_lt}
 use native.Mathlib.Omega.{arith}
 use lib.Bits.{bit_and, and_le_r}
-use lib.Dec.{eqb, ltb}
+use lib.Dec.{eqb}
 use lib.ListN.{length, get_or, set}
 use lib.Seq.{get_or-set_same, get_or-set_other, set_out}
-use borrow.Author.Tests.{eqb-true, eqb-false, ltb-true}
+use borrow.Author.Tests.{eqb-true, eqb-false}
 use Rattle.numbers.specs.Bits.{bit, spread, merge, pick_bit}
-use Rattle.numbers.proofs.Tests.{and_true}
-use Rattle.numbers.proofs.Picks.{pick_either}
 use Rattle.numbers.proofs.Merge.{and_bit, bits_equal, merge_bit}
 use Rattle.registers.specs.State.{State}
-use Rattle.registers.specs.Held.{Row, held, bits_in, bits_of}
+use Rattle.registers.specs.Held.{bits_of}
+pub use Rattle.registers.proofs.Words.{held_small}
 
 -- what is read of a cell and of an entry
 abbrev pub held_in : List ℕ → ℕ → ℕ
@@ -45,22 +44,6 @@ set_alike f l m i j x y n h e = go (eqb j i) refl (dec_lt i (length l))
         let r : i < length m = omega arith in
         rw (c, get_or-set_same l i x 0 q, get_or-set_same m i y 0 r) (e c)
     go true d (no q) = rw (set_out l i x (omega arith), set_out m i y (omega arith)) h
-
--- held bits are below 2^32
-small : List Row → Bool
-small [] = true
-small (r ∷ rs) = ltb r.bits 0x100000000 && small rs
-
-row_small : (rs : List Row) (j : ℕ) → small rs ≡ true → bits_in rs j < 0x100000000
-unfolding bits_in small
-row_small [] j t = omega arith
-row_small (r ∷ rs) j t =
-    let u = and_true (ltb r.bits 0x100000000) (small rs) t in
-    pick_either (λ n. n < 0x100000000) (eqb r.id j) (ltb-true r.bits 0x100000000 u.0) (row_small rs j u.1)
-
-pub held_small : (j : ℕ) → bits_of j < 0x100000000
-unfolding bits_of small held
-held_small j = row_small held j refl
 
 -- A CELL: the held bits of a masked replacement go by the held bits alone
 pick_alike : (e v o p h : ℕ) → bit_and o h ≡ bit_and p h → bit_and (pick_bit e v o) h ≡ bit_and (pick_bit e v p) h

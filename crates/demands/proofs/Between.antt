@@ -19,16 +19,10 @@ use Rattle.words.proofs.Laws.{allowed_fault}
 use Rattle.registers.specs.State.{State, sized}
 use Rattle.registers.specs.Applied.{apply, apply_all, differs, differences}
 use Rattle.registers.specs.Single.{refusal_of}
-use Rattle.registers.specs.declared.Written.{Written}
-use Rattle.registers.specs.declared.Written.TheVariants as written
 use Rattle.registers.proofs.Once.{told_one_law as write-told-one}
 use Rattle.registers.proofs.Single.{fault_refusal}
 use Rattle.registers.proofs.Differences.{differences_none, differences_more}
 use Rattle.reader.specs.ListVerdict.{verdict, all_allowed}
-use Rattle.reader.specs.declared.ListVerdict.{ListVerdict}
-use Rattle.reader.specs.declared.ListVerdict.TheVariants as list-verdict
-use Rattle.reader.specs.declared.Reading.{Reading}
-use Rattle.reader.specs.declared.Reading.TheVariants as reading
 use Rattle.reader.specs.Read.{read_answer, read_answers}
 use Rattle.reader.proofs.Accepted.{verdict_accepted}
 use Rattle.commands.proofs.Applying.{apply_none, apply_more}
@@ -39,8 +33,6 @@ use Rattle.runs.specs.Shortest.{Says}
 use Rattle.runs.proofs.Writes.{writes_length, writes_rows}
 use Rattle.runs.proofs.Shortest.{says_of, written_shortest, written_short}
 use Rattle.runs.proofs.Each.{says_packable, says_kept}
-use Rattle.packer.specs.declared.Packed.{Packed}
-use Rattle.packer.specs.declared.Packed.TheVariants as packer
 use Rattle.demands.specs.Said.{Said}
 use Rattle.demands.specs.Refusals.{OneLength, WritesRefused}
 use Rattle.demands.proofs.Lengths.{apply_sized}
@@ -50,24 +42,28 @@ use Rattle.demands.proofs.Said.{packable_said}
 use Rattle.demands.proofs.Both.{neither_given}
 use Rattle.demands.proofs.Calls.{WriteCall, ReadCall, WritesCall, PackCall, write_call, read_call, writes_call}
 use Rattle.demands.proofs.EndToEnd.{counts_one, read_accepts, packed_put, packs}
+use Rattle.std.specs.Prelude.{Result, Ok, Err}
+use Rattle.reader.specs.declared.Counts.{Counts}
+use Rattle.words.specs.Reasons.{number_of}
+use Rattle.words.specs.declared.Reason.TheVariants.{NoRoom}
 
 -- A REFUSAL is by 7, a number of the reader's or 22, with its place, and leaves the three buffers as they were
-pub writes_refuses : {l is ms vs is' ms' vs' : List ℕ} {why : Refusal} → WritesCall l is ms vs (list-verdict.Refused why) is' ms' vs'
-    → (is' ≡ is) × (ms' ≡ ms) × (vs' ≡ vs) × WritesRefused l is ms vs why.number why.place
+pub writes_refuses : {l is ms vs is' ms' vs' : List ℕ} {why : Refusal} → WritesCall l is ms vs (Err why) is' ms' vs'
+    → (is' ≡ is) × (ms' ≡ ms) × (vs' ≡ vs) × WritesRefused l is ms vs (number_of why.reason) why.place
 writes_refuses {l} {is} {ms} {vs} {why = why} c =
     let k = writes_call c in
     let e = sym k.0 in
-    let r = refused_writes l is ms vs why.number why.place e in
-    (k.1 ∙ r.0, k.2 ∙ r.1, k.3 ∙ r.2, writes_row l is ms vs why.number why.place e)
+    let r = refused_writes l is ms vs (number_of why.reason) why.place e in
+    (k.1 ∙ r.0, k.2 ∙ r.1, k.3 ∙ r.2, writes_row l is ms vs (number_of why.reason) why.place e)
 
 -- "THEN THE READER'S OF THE LIST": what a reading refuses for the list, and not for its state, is refused here by the same number and place
-pub same_refusal : {s t : State} {l is ms vs is' ms' vs' : List ℕ} {why : Refusal} {r : ListVerdict}
-    → ReadCall s l (reading.Refused why) t → sized s ≡ true → WritesCall l is ms vs r is' ms' vs' → OneLength is ms vs
-    → r ≡ list-verdict.Refused why
+pub same_refusal : {s t : State} {l is ms vs is' ms' vs' : List ℕ} {why : Refusal} {r : Result ℕ Refusal}
+    → ReadCall s l (Err why) t → sized s ≡ true → WritesCall l is ms vs r is' ms' vs' → OneLength is ms vs
+    → r ≡ Err why
 unfolding read_answers
 same_refusal {s} {l = l} {is} {ms} {vs} {why = why} {r} d z c o =
-    let e = neither_given (read_answer s l) why.number why.place (differences s (expansion l)) (read_call d).0 in
-    told_one_law r _ ((writes_call c).0 ∙ as_read l is ms vs s z o why.number why.place e)
+    let e = neither_given (read_answer s l) (number_of why.reason) why.place (differences s (expansion l)) (read_call d).0 in
+    told_one_law r _ ((writes_call c).0 ∙ as_read l is ms vs s z o (number_of why.reason) why.place e)
 
 -- AN ANSWER: the first n places are the list's expansion, and those past them are as they were
 pub record ListedIn (l is ms vs is' ms' vs' : List ℕ) (n : ℕ) : Type 0 where
@@ -93,7 +89,7 @@ stands f ws n old new e s =
     (ap (take n) s ∙ take_at (map f ws) _ n long, ap (drop n) s ∙ drop_at (map f ws) _ n long ∙ ap (λ (k : ℕ). drop k old) long)
 
 -- what stands there, by the answer
-module _ {l is ms vs is' ms' vs' : List ℕ} {a : ListVerdict} (n : ℕ) (c : WritesCall l is ms vs a is' ms' vs')
+module _ {l is ms vs is' ms' vs' : List ℕ} {a : Result ℕ Refusal} (n : ℕ) (c : WritesCall l is ms vs a is' ms' vs')
     (e : writes_answer l is ms vs ≡ answered n) where
   abbrev E : List Write
   E = expansion l
@@ -110,7 +106,7 @@ module _ {l is ms vs is' ms' vs' : List ℕ} {a : ListVerdict} (n : ℕ) (c : Wr
   pub values_stand : (take n vs' ≡ values_in E) × (drop n vs' ≡ drop n vs)
   values_stand = let s = (writes_call c).3 in stands (λ (w : Write). w.value) E n vs vs' many (rw e at s)
 
-pub writes_listed : {l is ms vs is' ms' vs' : List ℕ} {n : ℕ} → WritesCall l is ms vs (list-verdict.Accepted n) is' ms' vs'
+pub writes_listed : {l is ms vs is' ms' vs' : List ℕ} {n : ℕ} → WritesCall l is ms vs (Ok n) is' ms' vs'
     → ListedIn l is ms vs is' ms' vs' n
 writes_listed {l} {is} {ms} {vs} {is'} {ms'} {vs'} {n} c =
     let e = sym (writes_call c).0 in
@@ -141,18 +137,18 @@ writes_listed {l} {is} {ms} {vs} {is'} {ms'} {vs'} {n} c =
     )
 
 -- and a list that the reader accepts, with places for its writes, is answered
-pub writes_lists : {l is ms vs is' ms' vs' : List ℕ} {r : ListVerdict} → WritesCall l is ms vs r is' ms' vs' → OneLength is ms vs
+pub writes_lists : {l is ms vs is' ms' vs' : List ℕ} {r : Result ℕ Refusal} → WritesCall l is ms vs r is' ms' vs' → OneLength is ms vs
     → length l ≤ 65536 → legal l ≡ true → well_formed l ≡ true → all_allowed (all_writes l) ≡ true → length (expansion l) ≤ length is
-    → r ≡ list-verdict.Accepted (length (expansion l))
+    → r ≡ Ok (length (expansion l))
 writes_lists {l} {is} {ms} {vs} {r = r} c o h m f a k = told_one_law r _ ((writes_call c).0 ∙ writes_given l is ms vs o h m f a k)
 
 -- "PACKING WHAT IT GIVES TAKES AT MOST THE LIST'S OWN WORDS", for a list of at most 4,096 writes in its expansion: the packer's list says
 -- the same writes in no more words, or the words that it asks for are no more
-pub writes_then_pack : {l is ms vs is' ms' vs' old new : List ℕ} {n : ℕ} {r : Packed}
-    → WritesCall l is ms vs (list-verdict.Accepted n) is' ms' vs' → n ≤ 4096 → PackCall (take n is') (take n ms') (take n vs') old r new
+pub writes_then_pack : {l is ms vs is' ms' vs' old new : List ℕ} {n : ℕ} {r : Result ℕ Refusal}
+    → WritesCall l is ms vs (Ok n) is' ms' vs' → n ≤ 4096 → PackCall (take n is') (take n ms') (take n vs') old r new
     → (m : ℕ) × (m ≤ length l)
-    × (((r ≡ packer.Words m) × Says (expansion l) (take m new))
-    ⊎ ((r ≡ packer.Refused (record { number = 10; place = m })) × (length old < m)))
+    × (((r ≡ Ok m) × Says (expansion l) (take m new))
+    ⊎ ((r ≡ Err (record { reason = NoRoom; place = m })) × (length old < m)))
 writes_then_pack {l} {is} {ms} {vs} {is'} {ms'} {vs'} {old} {new} {n} {r} c few p =
     let L = writes_listed c in
     let ws = writes (take n is') (take n ms') (take n vs') in
@@ -167,11 +163,11 @@ writes_then_pack {l} {is} {ms} {vs} {is'} {ms'} {vs'} {old} {new} {n} {r} c few 
     (λ x. (x.0, x.2.least l own, inr (x.1, x.2.lacking))) (packs p L.one_length few said)
 
 -- "THE WRITES OF A PACKED LIST ARE THE RUN", but for its writes of mask 0, in buffers with places for it
-pub pack_then_writes : {is ms vs old new js ks us js' ks' us' : List ℕ} {n : ℕ} {r : ListVerdict}
-    → PackCall is ms vs old (packer.Words n) new → WritesCall (take n new) js ks us r js' ks' us' → OneLength js ks us
+pub pack_then_writes : {is ms vs old new js ks us js' ks' us' : List ℕ} {n : ℕ} {r : Result ℕ Refusal}
+    → PackCall is ms vs old (Ok n) new → WritesCall (take n new) js ks us r js' ks' us' → OneLength js ks us
     → let ws = kept (writes is ms vs) in
     length ws ≤ length js
-    → (r ≡ list-verdict.Accepted (length ws)) × (take (length ws) js' ≡ ids_in ws) × (take (length ws) ks' ≡ masks_in ws)
+    → (r ≡ Ok (length ws)) × (take (length ws) js' ≡ ids_in ws) × (take (length ws) ks' ≡ masks_in ws)
     × (take (length ws) us' ≡ values_in ws)
 pack_then_writes {is} {ms} {vs} {old} {new} {js} {ks} {us} {n = n} {r} p c o k =
     let put = packed_put p in
@@ -199,17 +195,17 @@ pack_then_writes {is} {ms} {vs} {old} {new} {js} {ks} {us} {n = n} {r} p c o k =
 -- the writes of a run, each by a call of its own on what the one before left
 abbrev pub InTurn : State → List Write → State → Type 0
 InTurn s [] t = t ≡ s
-InTurn s (w ∷ ws) t = (u : State) × (r : Written) × WriteCall s w r u × InTurn u ws t
+InTurn s (w ∷ ws) t = (u : State) × (r : Result Bool Refusal) × WriteCall s w r u × InTurn u ws t
 
 -- none of them is refused
 abbrev pub EachDone : (s : State) (ws : List Write) (t : State) → InTurn s ws t → Type 0
 EachDone s [] t c = Unit {0}
-EachDone s (w ∷ ws) t c = ((d : Bool) × (c.1 ≡ written.Done d)) × EachDone c.0 ws t c.3
+EachDone s (w ∷ ws) t c = ((d : Bool) × (c.1 ≡ Ok d)) × EachDone c.0 ws t c.3
 
 -- how many of them told that they made a difference
-abbrev pub told_one : Written → ℕ
-told_one (written.Done d) = pick d 1 0
-told_one (written.Refused why) = 0
+abbrev pub told_one : Result Bool Refusal → ℕ
+told_one (Ok d) = pick d 1 0
+told_one (Err why) = 0
 
 abbrev pub tally : (s : State) (ws : List Write) (t : State) → InTurn s ws t → ℕ
 tally s [] t c = 0
@@ -227,7 +223,7 @@ in_turn (w ∷ ws) s t z p c =
     let a = k.1 in
     let e : u ≡ apply s w = rw f at a in
     let b = k.0 in
-    let done : c.1 ≡ written.Done d = write-told-one c.1 (written.Done d) (rw f at b) in
+    let done : c.1 ≡ Ok d = write-told-one c.1 (Ok d) (rw f at b) in
     let z' : sized u ≡ true = ap sized e ∙ apply_sized s w ∙ z in
     let rest = in_turn ws u t z' p.2 c.3 in
     let counts : tally u ws t c.3 ≡ differences (apply s w) ws = rest.2 ∙ ap (λ (x : State). differences x ws) e in (
@@ -237,11 +233,11 @@ in_turn (w ∷ ws) s t z p c =
     )
 
 -- and the differences that reading gives are those that the writes tell, each made on what the ones before it left
-pub writes_then_write : {l is ms vs is' ms' vs' : List ℕ} {n : ℕ} {s t u : State} {r : Reading}
-    → WritesCall l is ms vs (list-verdict.Accepted n) is' ms' vs' → sized s ≡ true
+pub writes_then_write : {l is ms vs is' ms' vs' : List ℕ} {n : ℕ} {s t u : State} {r : Result Counts Refusal}
+    → WritesCall l is ms vs (Ok n) is' ms' vs' → sized s ≡ true
     → (w : InTurn s (writes (take n is') (take n ms') (take n vs')) t) → ReadCall s l r u
     → EachDone s (writes (take n is') (take n ms') (take n vs')) t w
-    × (r ≡ reading.Accepted (record { writes = n; differences = tally s (writes (take n is') (take n ms') (take n vs')) t w })) × (u ≡ t)
+    × (r ≡ Ok (record { writes = n; differences = tally s (writes (take n is') (take n ms') (take n vs')) t w })) × (u ≡ t)
 writes_then_write {l} {is} {ms} {vs} {is'} {ms'} {vs'} {n} {s} {t} {u} {r} c z w d =
     let L = writes_listed c in
     let ws = writes (take n is') (take n ms') (take n vs') in
@@ -251,6 +247,6 @@ writes_then_write {l} {is} {ms} {vs} {is'} {ms'} {vs'} {n} {s} {t} {u} {r} c z w
     let x = in_turn ws s t z p w in
     let told : differences s (expansion l) ≡ tally s ws t w = ap (differences s) (sym L.writes) ∙ sym x.2 in (
       x.0,
-      q.0 ∙ ap reading.Accepted (counts_one _ _ (sym L.number) told),
+      q.0 ∙ ap Ok (counts_one _ _ (sym L.number) told),
       q.1 ∙ ap (apply_all s) (sym L.writes) ∙ sym x.1,
     )

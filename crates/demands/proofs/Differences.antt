@@ -18,8 +18,6 @@ use Rattle.registers.specs.Held.{bits_of}
 use Rattle.registers.specs.State.{State, sized}
 use Rattle.registers.specs.Applied.{differs, difference, differences}
 use Rattle.registers.specs.Single.{refusal_of, write_answer}
-use Rattle.registers.specs.declared.Written.{Written}
-use Rattle.registers.specs.declared.Written.TheVariants as written
 use Rattle.registers.proofs.Lookup.{held_has}
 use Rattle.registers.proofs.Sizes.{lengths}
 use Rattle.registers.proofs.Once.{told_one_law}
@@ -28,8 +26,6 @@ use Rattle.registers.proofs.Differences.{differs_fog_data, differs_light_data, d
 use Rattle.registers.proofs.Differences.{differences_most, no_differences_same, no_differences_no_data}
 use Rattle.reader.specs.Read.{read_answer, read_answers}
 use Rattle.reader.specs.declared.Counts.{Counts}
-use Rattle.reader.specs.declared.Reading.{Reading}
-use Rattle.reader.specs.declared.Reading.TheVariants as reading
 use Rattle.reader.proofs.Once.{both_one}
 use Rattle.pieces.specs.Pieces.{close_answer, close_answers}
 use Rattle.pica.specs.Calls.{answers, differences_after}
@@ -40,18 +36,20 @@ use Rattle.demands.proofs.Differ.{merge_keeps, merge_kept, difference_alike, dif
 use Rattle.demands.proofs.Calls.{WriteCall, write_call, ReadCall, read_call}
 use Rattle.demands.proofs.EndToEnd.{write_leaves, read_accepts_only}
 use Rattle.demands.proofs.PiecesFromC.{PicaReadCall, read_left, PicaCloseCall, close_left}
+use Rattle.std.specs.Prelude.{Result, Ok}
+use Rattle.words.specs.declared.Refusal.{Refusal}
 
 -- A SINGLE WRITE
 
 -- "A single masked write should also say whether the cell, entry or index it touches differs afterwards": it says so exactly when the state
 -- that it leaves is another
-pub write_tells_same : {s t : State} {w : Write} → WriteCall s w (written.Done false) t → t ≡ s
+pub write_tells_same : {s t : State} {w : Write} → WriteCall s w (Ok false) t → t ≡ s
 write_tells_same {s} {t} {w} c =
     let k = write_leaves c in
     let z : difference s w ≡ 0 = ap (λ b. pick b 1 0) (sym k.4) in
     let n = no_difference_no_data s w z in k.3 ∙ no_difference_same s w n.0 n.1 z
 
-pub write_tells_other : {s t : State} {w : Write} → WriteCall s w (written.Done true) t → t ≡ s → ⊥
+pub write_tells_other : {s t : State} {w : Write} → WriteCall s w (Ok true) t → t ≡ s → ⊥
 write_tells_other {s} {t} {w} c e =
     let k = write_leaves c in difference_another s w k.0 (ap (λ b. pick b 1 0) (sym k.4)) (sym k.3 ∙ e)
 
@@ -62,11 +60,11 @@ by_port s w true g e d p = differs_fog_data s w.id (spread w.mask) w.value e
 by_port s w false true e d p = differs_light_data s w.id (spread w.mask) w.value e d
 by_port s w false false e d p = absurd (false≢true (rw (e, d) at p))
 
-pub data_tells : {s t : State} {w : Write} {d : Bool} → WriteCall s w (written.Done d) t → port_data w.id ≡ true → d ≡ true
+pub data_tells : {s t : State} {w : Write} {d : Bool} → WriteCall s w (Ok d) t → port_data w.id ≡ true → d ≡ true
 data_tells {s} {t} {w} c p = (write_leaves c).4 ∙ by_port s w (fog_data w.id) (light_data w.id) refl refl p
 
 -- to an id that isn't held, ports' data apart, a write makes none
-pub unheld_tells : {s t : State} {w : Write} {d : Bool} → WriteCall s w (written.Done d) t
+pub unheld_tells : {s t : State} {w : Write} {d : Bool} → WriteCall s w (Ok d) t
     → fog_data w.id ≡ false → light_data w.id ≡ false → bits_of w.id ≡ 0 → d ≡ false
 unheld_tells {s} {t} {w} c f g z = (write_leaves c).4 ∙ differs_free s w.id (spread w.mask) w.value f g z
 
@@ -75,7 +73,7 @@ opposite true e = refl
 opposite false e = absurd (false≢true (sym e))
 
 -- and to a held register none exactly when each bit that it replaces, held and in a byte of the mask, was the value's already
-module _ {s t : State} {w : Write} {d : Bool} (c : WriteCall s w (written.Done d) t) (u : Words s) (some : bits_of w.id ≡ 0 → ⊥) where
+module _ {s t : State} {w : Write} {d : Bool} (c : WriteCall s w (Ok d) t) (u : Words s) (some : bits_of w.id ≡ 0 → ⊥) where
   abbrev replaced : ℕ
   replaced = bit_and (bits_of w.id) (spread w.mask)
 
@@ -103,7 +101,7 @@ module _ {s t : State} {w : Write} {d : Bool} (c : WriteCall s w (written.Done d
 -- "a read list should give, besides its number of writes, how many of them made a difference. That second number is the count over the
 -- expansion, each write judged on the state left by those before it"; writes with mask 0 "no longer belong to an expansion: .. the counts
 -- of an expansion leave them out"; that single writes in turn tell as many is `writes_then_write`, Between.antt
-module _ {s t : State} {l : List ℕ} {c : Counts} (r : ReadCall s l (reading.Accepted c) t) where
+module _ {s t : State} {l : List ℕ} {c : Counts} (r : ReadCall s l (Ok c) t) where
   pub read_counts : (c.writes ≡ length (expansion l)) × (c.differences ≡ differences s (expansion l))
   read_counts = let e = (read_accepts_only r).1 in (ap (λ (x : Counts). x.writes) e, ap (λ (x : Counts). x.differences) e)
 
@@ -155,7 +153,7 @@ read_alike s t l a u v true z =
     rw (z, y, differences_alike s t a u v z y (expansion l))
 read_alike s t l a u v false z = let y : sized t ≡ false = sym (sized_alike s t a) ∙ z in rw (z, y)
 
-pub read_held_only : {s t s' t' : State} {l : List ℕ} {r q : Reading} → Alike s t → Words s → Words t
+pub read_held_only : {s t s' t' : State} {l : List ℕ} {r q : Result Counts Refusal} → Alike s t → Words s → Words t
     → ReadCall s l r s' → ReadCall t l q t' → r ≡ q
 read_held_only {s} {t} {l = l} {r} {q} a u v c d =
     both_one r q ((read_call c).0 ∙ read_alike s t l a u v (sized s) refl ∙ sym (read_call d).0)
@@ -166,7 +164,7 @@ write_alike s t w a u v true z =
     let y : sized t ≡ true = sym (sized_alike s t a) ∙ z in rw (z, y, difference_alike s t a u v z y w)
 write_alike s t w a u v false z = let y : sized t ≡ false = sym (sized_alike s t a) ∙ z in rw (z, y)
 
-pub write_held_only : {s t s' t' : State} {w : Write} {r q : Written} → Alike s t → Words s → Words t
+pub write_held_only : {s t s' t' : State} {w : Write} {r q : Result Bool Refusal} → Alike s t → Words s → Words t
     → WriteCall s w r s' → WriteCall t w q t' → r ≡ q
 write_held_only {s} {t} {w = w} {r} {q} a u v c d =
     told_one_law r q ((write_call c).0 ∙ write_alike s t w a u v (sized s) refl ∙ sym (write_call d).0)

@@ -9,6 +9,7 @@ use lib.ListN.{get_or, set}
 use lib.Seq.{get_or-set_other}
 use borrow.Author.Tests.{eqb-true, eqb-false}
 use Rattle.numbers.specs.Pick.{pick}
+use Rattle.words.specs.declared.Reason.TheVariants.{BufferLength, CodeWithoutName}
 use Rattle.registers.specs.State.{State, sized}
 use Rattle.registers.specs.Held.{bits_of}
 use Rattle.settings.specs.Ranges.{bits, in_cells}
@@ -22,8 +23,6 @@ use Rattle.settings.specs.declared.records.Framebuffer.{Framebuffer}
 use Rattle.settings.specs.declared.records.Settings.{Settings}
 use Rattle.decode.specs.Codes.{stage_checks, frame_checks, checks, lowest}
 use Rattle.decode.specs.Decoded.{settings_of, nameless_id, refusal, decoded_of}
-use Rattle.decode.specs.declared.Decoded.{Decoded}
-use Rattle.decode.specs.declared.Decoded.TheVariants.{Held}
 use Rattle.decode.proofs.HeldOnly.{decoded_held_only}
 use Rattle.combiner.specs.Chain.{combiner_of}
 use Rattle.combiner.specs.declared.Given.{Given}
@@ -33,13 +32,15 @@ use Rattle.stores.specs.declared.Verdict.{Verdict}
 use Rattle.stores.specs.declared.Verdict.TheVariants.{AlphaFails, StencilFails, DepthFails, Passes}
 use Rattle.fragment.specs.Drawn.{outcome_of, unbuilt_id, drawn_with, drawn_from, drawn_of}
 use Rattle.stores.specs.declared.Stored.{Stored}
+use Rattle.std.specs.Prelude.{Result, Ok}
+use Rattle.words.specs.declared.Refusal.{Refusal}
 
 -- what isn't held: two states that agree on the held bits, and are both of the right lengths or both not, draw alike
 pub drawn_held_only : (s s' : State) → sized s ≡ sized s'
     → ((i : ℕ) → bit_and (get_or s.cells i 0) (bits_of i) ≡ bit_and (get_or s'.cells i 0) (bits_of i))
     → (g : Given) (incoming : ℕ) (stored : Stored) → drawn_of s g incoming stored ≡ drawn_of s' g incoming stored
 drawn_held_only s s' e agree g incoming stored =
-    ap (λ (d : Decoded). drawn_from d g incoming stored) (decoded_held_only s s' e agree)
+    ap (λ (d : Result Settings Refusal). drawn_from d g incoming stored) (decoded_held_only s s' e agree)
 
 -- DECODED FIELDS: what becomes of a fragment is the same whatever those of 112 and 114 are
 module _ (colour : ℕ) (depth : DepthAllowed) where
@@ -199,8 +200,8 @@ module _ (s s' : State) (agree : AgreeBeside s.cells s'.cells) (g : Given) (inco
       ∙ settings_unread 0 zeros (settings_of s') g incoming stored
 
   by_tests : (b c : Bool) (n : ℕ)
-      → drawn_from (pick b (pick c (Held (settings_of s)) (refusal 13 n)) (refusal 6 0)) g incoming stored
-      ≡ drawn_from (pick b (pick c (Held (settings_of s')) (refusal 13 n)) (refusal 6 0)) g incoming stored
+      → drawn_from (pick b (pick c (Ok (settings_of s)) (refusal CodeWithoutName n)) (refusal BufferLength 0)) g incoming stored
+      ≡ drawn_from (pick b (pick c (Ok (settings_of s')) (refusal CodeWithoutName n)) (refusal BufferLength 0)) g incoming stored
   unfolding drawn_from
   by_tests true true n = same_drawn
   by_tests true false n = refl

@@ -19,8 +19,6 @@ use Rattle.parts.specs.Progress.{fresh, after, made, held_at, between, fault_num
 use Rattle.parts.proofs.Closing.{closes_long, closes_odd}
 use Rattle.pieces.specs.Pieces.{told, both_sized, fed}
 use Rattle.parts.specs.declared.Progress.{Progress}
-use Rattle.pieces.specs.declared.Going.{Going}
-use Rattle.pieces.specs.declared.Going.TheVariants.{Come}
 use Rattle.pieces.specs.declared.Closed.{Closed}
 use Rattle.pieces.proofs.Calls.{open_wrong, open_right, feed_wrong, feed_right, close_wrong, close_refused, close_accepted}
 use Rattle.demands.specs.Refusals.{In}
@@ -31,16 +29,18 @@ use Rattle.demands.proofs.Beside.{Beside, beside_same, beside_run, beside_taken}
 use Rattle.demands.proofs.Calls.{OpenCall, open_call, FeedCall, feed_call, CloseCall, close_call}
 use Rattle.demands.proofs.Feeds.{fed_call}
 use Rattle.demands.proofs.Pieces.{both_sized_law, right_answer}
+use Rattle.std.specs.Prelude.{Result, Ok}
+use Rattle.words.specs.declared.Refusal.{Refusal}
 
 -- RIGHT LENGTHS are never refused by open and feed, and a close then answers by the progress alone
-pub open_answers : {live spare t : State} {a : Going} → OpenCall live spare a t → both_sized live spare ≡ true
-    → (a ≡ Come fresh) × (t ≡ taken spare live)
+pub open_answers : {live spare t : State} {a : Result Progress Refusal} → OpenCall live spare a t → both_sized live spare ≡ true
+    → (a ≡ Ok fresh) × (t ≡ taken spare live)
 open_answers {live} {spare} c e =
     let k = open_call c in
     let r = open_right live spare e in (k.0 ∙ sym r.0, k.1 ∙ sym r.1)
 
-pub feed_answers : {p : Progress} {s t : State} {l : List ℕ} {a : Going} → FeedCall p s l a t → sized s ≡ true
-    → (a ≡ Come (fed p s l)) × (t ≡ apply_all s (made p l)) × (sized t ≡ true)
+pub feed_answers : {p : Progress} {s t : State} {l : List ℕ} {a : Result Progress Refusal} → FeedCall p s l a t → sized s ≡ true
+    → (a ≡ Ok (fed p s l)) × (t ≡ apply_all s (made p l)) × (sized t ≡ true)
 feed_answers {p} {s} {t} {l} c e =
     let k = feed_call c in
     let r = feed_right p s l e in
@@ -95,13 +95,13 @@ module _ {p : Progress} {live spare live' spare' : State} {c : Closed} (k : Clos
 
 -- "A buffer of wrong length is refusal 6 at any call and changes nothing": a refused opening or feeding hands back no progress, so that the
 -- caller's stays, and a refused close hands back the same
-pub wrong_length_open : {live spare t : State} {a : Going} → OpenCall live spare a t → both_sized live spare ≡ false
+pub wrong_length_open : {live spare t : State} {a : Result Progress Refusal} → OpenCall live spare a t → both_sized live spare ≡ false
     → (told a ≡ refused 6 0) × (t ≡ spare)
 wrong_length_open {live} {spare} c e =
     let k = open_call c in
     let r = open_wrong live spare e in (ap told (k.0 ∙ sym r.0), k.1 ∙ sym r.1)
 
-pub wrong_length_feed : {p : Progress} {s t : State} {l : List ℕ} {a : Going} → FeedCall p s l a t → sized s ≡ false
+pub wrong_length_feed : {p : Progress} {s t : State} {l : List ℕ} {a : Result Progress Refusal} → FeedCall p s l a t → sized s ≡ false
     → (told a ≡ refused 6 0) × (t ≡ s)
 wrong_length_feed {p} {s} {t} {l} c e =
     let k = feed_call c in
@@ -116,14 +116,14 @@ wrong_length_close {p} {live} {spare} c e =
 
 -- "What a lent cell holds beside its held bits .. never changes, nor do cells of other ids", document 01, nor an entry's high 8 bits: of
 -- either state, in any of the three calls, for any progress
-pub beside_opened : {live spare t : State} {a : Going} → OpenCall live spare a t → Beside t spare
+pub beside_opened : {live spare t : State} {a : Result Progress Refusal} → OpenCall live spare a t → Beside t spare
 beside_opened {live} {spare} {t} c = go (both_sized live spare) refl
   where
     go : (b : Bool) → both_sized live spare ≡ b → Beside t spare
     go true e = rw ((open_call c).1 ∙ sym (open_right live spare e).1) (beside_taken spare live (both_sized_law live spare e).1)
     go false e = rw ((open_call c).1 ∙ sym (open_wrong live spare e).1) (beside_same spare)
 
-pub beside_fed : {p : Progress} {s t : State} {l : List ℕ} {a : Going} → FeedCall p s l a t → Beside t s
+pub beside_fed : {p : Progress} {s t : State} {l : List ℕ} {a : Result Progress Refusal} → FeedCall p s l a t → Beside t s
 beside_fed {p} {s} {t} {l} c = go (sized s) refl
   where
     go : (b : Bool) → sized s ≡ b → Beside t s
@@ -191,7 +191,7 @@ pub close_illegal : {p : Progress} {live spare live' spare' : State} {c : Closed
 close_illegal {p} k e h m = told_closing k e ∙ rw (closes_odd p h m)
 
 -- and feeding answers at most 65,537
-pub fed_at_most : {p q : Progress} {s t : State} {l : List ℕ} → FeedCall p s l (Come q) t → q.come ≤ 65537
+pub fed_at_most : {p q : Progress} {s t : State} {l : List ℕ} → FeedCall p s l (Ok q) t → q.come ≤ 65537
 fed_at_most {p} {q} {s} {t} {l} c = rw (fed_call c).1 (most (after p l).come (dec_lt 65536 (after p l).come))
   where
     most : (n : ℕ) → Dec (65536 < n) → held_at n ≤ 65537

@@ -22,31 +22,24 @@ use Rattle.words.specs.declared.Refusal.{Refusal}
 use Rattle.registers.specs.State.{State, sized}
 use Rattle.registers.specs.Applied.{apply, apply_all, differs, difference, differences}
 use Rattle.registers.specs.Single.{refusal_of, unless}
-use Rattle.registers.specs.declared.Written.TheVariants as written
 use Rattle.reader.specs.ListVerdict.{all_allowed}
 use Rattle.reader.specs.Read.{read_answer, read_answers, read_state}
 use Rattle.reader.specs.declared.Counts.{Counts}
-use Rattle.reader.specs.declared.Reading.{Reading}
-use Rattle.reader.specs.declared.Reading.TheVariants as reading
 use Rattle.reader.proofs.Once.{both_one}
 use Rattle.registers.proofs.Once.{told_one_law as write-told-one}
 use Rattle.runs.specs.PackedList.{writes, PackableRun, written as list_of}
 use Rattle.runs.specs.Shortest.{Says, Shortest}
 use Rattle.runs.proofs.Shortest.{written_shortest}
-use Rattle.packer.specs.declared.Packed.{Packed}
-use Rattle.packer.specs.declared.Packed.TheVariants as packer
 use Rattle.packer.proofs.Once.{told_one_law as pack-told-one}
 use Rattle.demands.specs.Said.{Said}
 use Rattle.settings.specs.declared.records.Settings.{Settings}
 use Rattle.decode.specs.Decoded.{settings_of, nameless, decoded_of, decodable}
-use Rattle.decode.specs.declared.Decoded.TheVariants as decoded
 use Rattle.decode.proofs.Lowest.{held_named}
 use Rattle.decode.proofs.Cases.{decodable_sized, decodable_held, else_refused}
 use Rattle.combiner.specs.declared.Given.{Given}
 use Rattle.stores.specs.declared.Stored.{Stored}
 use Rattle.fragment.specs.Drawn.{unbuilt_at, outcome_of}
 use Rattle.fragment.specs.declared.Outcome.{Outcome}
-use Rattle.fragment.specs.declared.Drawn.TheVariants as drawn
 use Rattle.fragment.proofs.Widths.{drawn_decoded, drawn_tested}
 use Rattle.demands.specs.FragmentRefusals.{DecodeRefused, DrawRefused, top_of}
 use Rattle.demands.specs.Refusals.{ReadRefused, WriteRefused, OneLength, PackRefused}
@@ -59,38 +52,41 @@ use Rattle.demands.proofs.Refusals.{write_row, read_row}
 use Rattle.demands.proofs.RunRefusals.{pack_row}
 use Rattle.demands.proofs.Said.{said_packable}
 use Rattle.demands.proofs.Packing.{refused_pack, answered_then, given_said, reads_back, room, no_room}
+use Rattle.std.specs.Prelude.{Result, Ok, Err}
+use Rattle.words.specs.Reasons.{number_of}
+use Rattle.words.specs.declared.Reason.TheVariants as reason
 
 -- DEMAND 1: "Any words, any numbers may come in. Every entry point answers, or refuses by a number of the table, and asks nothing of its
 -- caller. A refused list leaves all three buffers as they were, also when its last command is the bad one." That nothing is asked is no
 -- theorem: the contracts have no precondition.
 
-pub write_refuses : {s t : State} {w : Write} {why : Refusal} → WriteCall s w (written.Refused why) t
-    → (t ≡ s) × WriteRefused s w why.number why.place
+pub write_refuses : {s t : State} {w : Write} {why : Refusal} → WriteCall s w (Err why) t
+    → (t ≡ s) × WriteRefused s w (number_of why.reason) why.place
 write_refuses {s} {t} {w} {why} c =
     let k = write_call c in
-    (k.1 ∙ refused_write s w why.number why.place (sym k.0), write_row s w why.number why.place (sym k.0))
+    (k.1 ∙ refused_write s w (number_of why.reason) why.place (sym k.0), write_row s w (number_of why.reason) why.place (sym k.0))
 
-pub read_refuses : {s t : State} {l : List ℕ} {why : Refusal} → ReadCall s l (reading.Refused why) t
-    → (t ≡ s) × ReadRefused s l why.number why.place
+pub read_refuses : {s t : State} {l : List ℕ} {why : Refusal} → ReadCall s l (Err why) t
+    → (t ≡ s) × ReadRefused s l (number_of why.reason) why.place
 unfolding read_answers
 read_refuses {s} {t} {l} {why} c =
     let k = read_call c in
-    let e = neither_given (read_answer s l) why.number why.place (differences s (expansion l)) k.0 in
-    (k.1 ∙ refused_list s l why.number why.place e, read_row s l why.number why.place e)
+    let e = neither_given (read_answer s l) (number_of why.reason) why.place (differences s (expansion l)) k.0 in
+    (k.1 ∙ refused_list s l (number_of why.reason) why.place e, read_row s l (number_of why.reason) why.place e)
 
-pub pack_refuses : {is ms vs old new : List ℕ} {why : Refusal} → PackCall is ms vs old (packer.Refused why) new
-    → (new ≡ old) × PackRefused is ms vs (length old) why.number why.place
+pub pack_refuses : {is ms vs old new : List ℕ} {why : Refusal} → PackCall is ms vs old (Err why) new
+    → (new ≡ old) × PackRefused is ms vs (length old) (number_of why.reason) why.place
 pack_refuses {is} {ms} {vs} {old} {new} {why} c =
     let k = pack_call c in
     let e = sym k.0 in
-    (k.1 ∙ refused_pack is ms vs old why.number why.place e, pack_row is ms vs (length old) why.number why.place e)
+    (k.1 ∙ refused_pack is ms vs old (number_of why.reason) why.place e, pack_row is ms vs (length old) (number_of why.reason) why.place e)
 
-pub decode_refuses : {s : State} {why : Refusal} → DecodeCall s (decoded.Refused why) → DecodeRefused s why.number why.place
-decode_refuses {s} {why} c = decode_row s why.number why.place (sym (decode_call c))
+pub decode_refuses : {s : State} {why : Refusal} → DecodeCall s (Err why) → DecodeRefused s (number_of why.reason) why.place
+decode_refuses {s} {why} c = decode_row s why.reason why.place (sym (decode_call c))
 
 pub draw_refuses : {s : State} {g : Given} {incoming : ℕ} {stored : Stored} {why : Refusal}
-    → DrawCall s g incoming stored (drawn.Refused why) → DrawRefused s incoming stored.depth why.number why.place
-draw_refuses {s} {g} {incoming} {stored} {why} c = draw_row s incoming stored why.number why.place g (sym (draw_call c))
+    → DrawCall s g incoming stored (Err why) → DrawRefused s incoming stored.depth (number_of why.reason) why.place
+draw_refuses {s} {g} {incoming} {stored} {why} c = draw_row s incoming stored why.reason why.place g (sym (draw_call c))
 
 pub counts_one : (c d : Counts) → c.writes ≡ d.writes → c.differences ≡ d.differences → c ≡ d
 counts_one c d w n = rw (w, n)
@@ -112,7 +108,7 @@ pub record Acceptable (s : State) (l : List ℕ) : Type 0 where
 abbrev pub counts_of : State → List ℕ → Counts
 counts_of s l = record { writes = length (expansion l); differences = differences s (expansion l) }
 
-pub read_accepts_only : {s t : State} {l : List ℕ} {c : Counts} → ReadCall s l (reading.Accepted c) t
+pub read_accepts_only : {s t : State} {l : List ℕ} {c : Counts} → ReadCall s l (Ok c) t
     → Acceptable s l × (c ≡ counts_of s l) × (t ≡ apply_all s (expansion l))
 unfolding read_answers
 read_accepts_only {s} {t} {l} {c} r =
@@ -126,18 +122,18 @@ read_accepts_only {s} {t} {l} {c} r =
       k.1 ∙ leaves s l z.0 z.1 c.writes e,
     )
 
-pub read_accepts : {s t : State} {l : List ℕ} {r : Reading} → ReadCall s l r t → Acceptable s l
-    → (r ≡ reading.Accepted (counts_of s l)) × (t ≡ apply_all s (expansion l))
+pub read_accepts : {s t : State} {l : List ℕ} {r : Result Counts Refusal} → ReadCall s l r t → Acceptable s l
+    → (r ≡ Ok (counts_of s l)) × (t ≡ apply_all s (expansion l))
 unfolding read_answers
 read_accepts {s} {t} {l} {r} c a =
     let k = read_call c in
     let e = accepted s l a.lengths a.short a.legal a.form a.allowed in (
-      both_one r (reading.Accepted (counts_of s l)) (k.0 ∙ rw e),
+      both_one r (Ok (counts_of s l)) (k.0 ∙ rw e),
       k.1 ∙ leaves s l a.lengths a.short _ e,
     )
 
 done_one : (a b : Bool) → answered (pick a 1 0) ≡ answered (pick b 1 0) → a ≡ b
-done_one a b e = let z = write-told-one (written.Done a) (written.Done b) e in cc
+done_one a b e = let z = write-told-one (Ok a) (Ok b) e in cc
 
 by_number : (n d : ℕ) (s t u : State) (b : Bool) → answered (pick b 1 0) ≡ unless_fault n 0 (answered d) → u ≡ unless n t s
     → (n ≡ 0) × (pick b 1 0 ≡ d) × (u ≡ t)
@@ -156,7 +152,7 @@ unfolding refusal_of
 not_refused s w e = by_mask s w (sized s) (ltb 15 w.mask) refl refl e
 
 -- a single write that is done is allowed, leaves what the write leaves, and tells whether it made a difference
-pub write_leaves : {s t : State} {w : Write} {d : Bool} → WriteCall s w (written.Done d) t
+pub write_leaves : {s t : State} {w : Write} {d : Bool} → WriteCall s w (Ok d) t
     → (sized s ≡ true) × (w.mask ≤ 15) × (allowed w.id w.mask ≡ true) × (t ≡ apply s w)
     × (d ≡ differs s w.id (spread w.mask) w.value)
 write_leaves {s} {t} {w} {d} c =
@@ -166,7 +162,7 @@ write_leaves {s} {t} {w} {d} c =
     (a.0, a.1, a.2, r.2, done_one d (differs s w.id (spread w.mask) w.value) (ap answered r.1))
 
 -- where words are answered, the run can be packed, and its list stands in the space
-pub packed_put : {is ms vs old new : List ℕ} {n : ℕ} → PackCall is ms vs old (packer.Words n) new
+pub packed_put : {is ms vs old new : List ℕ} {n : ℕ} → PackCall is ms vs old (Ok n) new
     → PackableRun is ms vs × (take n new ≡ list_of (writes is ms vs))
 packed_put {is} {ms} {vs} {old} {new} {n} p =
     let k = pack_call p in
@@ -177,10 +173,10 @@ packed_put {is} {ms} {vs} {old} {new} {n} p =
 
 -- "A packed list reads back as the writes that were given", but for those of mask 0, which "the packer drops": what `pack` put into the
 -- space, read by `read` into any state
-pub pack_then_read : {is ms vs old new : List ℕ} {n : ℕ} {s t : State} {r : Reading} → PackCall is ms vs old (packer.Words n) new
+pub pack_then_read : {is ms vs old new : List ℕ} {n : ℕ} {s t : State} {r : Result Counts Refusal} → PackCall is ms vs old (Ok n) new
     → ReadCall s (take n new) r t → sized s ≡ true
     → let ws = kept (writes is ms vs) in
-    (r ≡ reading.Accepted (record { writes = length ws; differences = differences s ws })) × (t ≡ apply_all s ws)
+    (r ≡ Ok (record { writes = length ws; differences = differences s ws })) × (t ≡ apply_all s ws)
 unfolding read_answers
 pack_then_read {is} {ms} {vs} {old} {new} {n} {s} {t} {r} p c z =
     let G = (packed_put p).0 in
@@ -191,22 +187,22 @@ pack_then_read {is} {ms} {vs} {old} {new} {n} {s} {t} {r} p c z =
     let e : read_answers s (take n new) ≡ both (length ws) (differences s ws) = rw (put, back.0, back.1) in
     (both_one r _ (q.0 ∙ e), q.1 ∙ ap (read_state s) put ∙ back.2)
 
-held_settings : (s : State) (x : Settings) (t : Bool) → decodable s ≡ t → decoded_of s ≡ decoded.Held x
+held_settings : (s : State) (x : Settings) (t : Bool) → decodable s ≡ t → decoded_of s ≡ Ok x
     → (decodable s ≡ true) × (x ≡ settings_of s)
 held_settings s x true d e = let z = sym e ∙ decodable_held s d in (d, cc)
 held_settings s x false d e = let q = sym e ∙ else_refused s d in absurd (let z : ◌≡◌ {A = ℕ} 0 1 = cc in omega arith)
 
 -- "Decoded state and fragment results are those of document 01's tables": of a state whose codes all have names, and for a fragment one
 -- that is built, and depths that the format has
-pub decode_answers : {s : State} {x : Settings} → DecodeCall s (decoded.Held x)
+pub decode_answers : {s : State} {x : Settings} → DecodeCall s (Ok x)
     → (sized s ≡ true) × ((j : ℕ) → nameless s j ≡ false) × (x ≡ settings_of s)
 decode_answers {s} {x} c =
     let e = sym (decode_call c) in
     let h = held_settings s x (decodable s) refl e in
     (decodable_sized s h.0, held_named s x e, h.1)
 
-pub draw_answers : {s : State} {g : Given} {incoming : ℕ} {stored : Stored} {o : Outcome} → DrawCall s g incoming stored (drawn.Done o)
-    → (decoded_of s ≡ decoded.Held (settings_of s)) × ((j : ℕ) → unbuilt_at (settings_of s) j ≡ false)
+pub draw_answers : {s : State} {g : Given} {incoming : ℕ} {stored : Stored} {o : Outcome} → DrawCall s g incoming stored (Ok o)
+    → (decoded_of s ≡ Ok (settings_of s)) × ((j : ℕ) → unbuilt_at (settings_of s) j ≡ false)
     × (incoming ≤ top_of s) × (stored.depth ≤ top_of s) × (o ≡ outcome_of (settings_of s) g incoming stored)
 draw_answers {s} {g} {incoming} {stored} {o} c =
     let d = drawn_decoded s g incoming stored o (sym (draw_call c)) in
@@ -231,7 +227,7 @@ pub record NoRoom (ws : List Write) (old new : List ℕ) (n : ℕ) : Type 0 wher
   pub least : (l : List ℕ) → Says ws l → n ≤ length l
   pub met : (l : List ℕ) × Shortest ws l × (length l ≡ n)
 
-module _ {is ms vs old new : List ℕ} {r : Packed} (p : PackCall is ms vs old r new)
+module _ {is ms vs old new : List ℕ} {r : Result ℕ Refusal} (p : PackCall is ms vs old r new)
     (level : OneLength is ms vs) (few : length is ≤ 4096) (said : Said (writes is ms vs)) where
   -- what is left of the run, and the list that is written for it
   abbrev ws : List Write
@@ -247,10 +243,10 @@ module _ {is ms vs old new : List ℕ} {r : Packed} (p : PackCall is ms vs old r
   best = written_shortest (writes is ms vs) (said_packable (writes is ms vs) said)
 
   abbrev Fits : Type 0
-  Fits = (n : ℕ) × (r ≡ packer.Words n) × (n ≤ length old) × PackedInto ws old new n
+  Fits = (n : ℕ) × (r ≡ Ok n) × (n ≤ length old) × PackedInto ws old new n
 
   abbrev Lacks : Type 0
-  Lacks = (n : ℕ) × (r ≡ packer.Refused (record { number = 10; place = n })) × NoRoom ws old new n
+  Lacks = (n : ℕ) × (r ≡ Err (record { reason = reason.NoRoom; place = n })) × NoRoom ws old new n
 
   fits : need ≤ length old → Fits
   fits h =
@@ -259,14 +255,14 @@ module _ {is ms vs old new : List ℕ} {r : Packed} (p : PackCall is ms vs old r
       let now = k.1 ∙ e.1 in
       let front : take need new ≡ list = ap (take need) now ∙ take_at list _ need refl in
       let rest : drop need new ≡ drop need old = ap (drop need) now ∙ drop_at list _ need refl in
-      let told = pack-told-one r (packer.Words need) (k.0 ∙ e.0) in
+      let told = pack-told-one r (Ok need) (k.0 ∙ e.0) in
       (need, told, h, record { shortest = rw front best; words = ap length front; rest = rest })
 
   lacks : length old < need → Lacks
   lacks h =
       let k = pack_call p in
       let e = no_room is ms vs level few said old h in
-      let why = pack-told-one r (packer.Refused (record { number = 10; place = need })) (k.0 ∙ e) in
+      let why = pack-told-one r (Err (record { reason = reason.NoRoom; place = need })) (k.0 ∙ e) in
       let same = k.1 ∙ refused_pack is ms vs old 10 need e in
       (need, why, record { same = same; lacking = h; least = best.least; met = (list, best, refl) })
 
@@ -279,7 +275,7 @@ module _ {is ms vs old new : List ℕ} {r : Packed} (p : PackCall is ms vs old r
       go (no h) = inr (lacks (omega arith))
 
 -- and only such a run is packed
-pub packs_only : {is ms vs old new : List ℕ} {n : ℕ} → PackCall is ms vs old (packer.Words n) new
+pub packs_only : {is ms vs old new : List ℕ} {n : ℕ} → PackCall is ms vs old (Ok n) new
     → OneLength is ms vs × (length is ≤ 4096) × Said (writes is ms vs)
 packs_only {is} {ms} {vs} {old} {new} {n} c =
     let G = (answered_then is ms vs (length old) n (sym (pack_call c).0)).0 in

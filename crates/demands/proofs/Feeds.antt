@@ -2,6 +2,8 @@
 use mathlib.Core.Path.{◌≡◌, refl, sym, ap, ◌∙◌}
 use mathlib.Core.Bool.{Bool, true, false}
 use mathlib.Core.List.{List, [], ◌∷◌, ◌++◌}
+use Rattle.std.specs.Prelude.{Result}
+use Rattle.words.specs.declared.Refusal.{Refusal}
 use Prim.Native.Nat.{ℕ, ◌+◌, ◌<◌}
 use native.Mathlib.Decide.{dec_lt}
 use native.Mathlib.Omega.{arith}
@@ -15,11 +17,11 @@ use Rattle.parts.specs.declared.Progress.{Progress}
 use Rattle.parts.proofs.Steps.{after_none, after_append, made_none, made_append}
 use Rattle.parts.proofs.Counts.{held_twice, come_held, counted_same}
 use Rattle.pieces.specs.Pieces.{wrong_length, fed, feeding, fed_spare}
-use Rattle.pieces.specs.declared.Going.TheVariants.{Come}
 use Rattle.pieces.proofs.Calls.{feed_wrong, feed_right}
 use Rattle.demands.proofs.Taken.{sized_kept}
 use Rattle.demands.proofs.Tallies.{after_tallied, made_tallied}
 use Rattle.demands.proofs.Calls.{FeedCall, feed_call}
+use Rattle.std.specs.Prelude.{Result, Ok}
 
 -- THE LIST THAT PARTS ARE CUT FROM, at any places, parts of zero words among them
 unfoldable pub joined : List (List ℕ) → List ℕ
@@ -41,21 +43,21 @@ FeedsBy call m s (l ∷ ls) n t = Fed call m s l (λ r u. FeedsBy call r u ls n 
 
 -- by calls of `pieces::feed`, of which the caller keeps the progress
 abbrev pub Feeds : Progress → State → List (List ℕ) → Progress → State → Type 0
-Feeds p s ls q t = FeedsBy (λ p s l q t. FeedCall p s l (Come q) t) p s ls q t
+Feeds p s ls q t = FeedsBy (λ p s l q t. FeedCall p s l (Ok q) t) p s ls q t
 
 -- an answer is no refusal
-pub come_no_refusal : {A : Type 0} (p : Progress) → Come p ≡ wrong_length → A
+pub come_no_refusal : {A : Type 0} (p : Progress) → Ok p ≡ wrong_length → A
 come_no_refusal p e = let z : ◌≡◌ {A = ℕ} 0 1 = cc in absurd (omega arith)
 
-pub come_one : (p q : Progress) → Come p ≡ Come q → p ≡ q
+pub come_one : (p q : Progress) → ◌≡◌ {A = Result Progress Refusal} (Ok p) (Ok q) → p ≡ q
 come_one p q e = cc
 
 -- FEEDING, of which the answer is no refusal
-pub fed_call : {p q : Progress} {s t : State} {l : List ℕ} → FeedCall p s l (Come q) t
+pub fed_call : {p q : Progress} {s t : State} {l : List ℕ} → FeedCall p s l (Ok q) t
     → (sized s ≡ true) × (q ≡ fed p s l) × (t ≡ apply_all s (made p l))
 fed_call {p} {q} {s} {t} {l} c = go (sized s) refl (feed_call c)
   where
-    go : (b : Bool) → sized s ≡ b → (Come q ≡ feeding p s l) × (t ≡ fed_spare p s l)
+    go : (b : Bool) → sized s ≡ b → (Ok q ≡ feeding p s l) × (t ≡ fed_spare p s l)
         → (sized s ≡ true) × (q ≡ fed p s l) × (t ≡ apply_all s (made p l))
     go true e k = let r = feed_right p s l e in (e, come_one q (fed p s l) (k.0 ∙ sym r.0), k.1 ∙ sym r.1)
     go false e k = come_no_refusal q (k.0 ∙ sym (feed_wrong p s l e).0)
@@ -106,4 +108,4 @@ pub feeds_joined : (ls : List (List ℕ)) (p q : Progress) (s t : State) → siz
     → p.differences < 0x100000000
     → (q ≡ onward p s (joined ls)) × (t ≡ apply_all s (made p (joined ls)))
 feeds_joined =
-    joined_by (λ p s l q t. FeedCall p s l (Come q) t) (λ p. p) (λ m n s t l z c. let k = fed_call c in (k.1, k.2))
+    joined_by (λ p s l q t. FeedCall p s l (Ok q) t) (λ p. p) (λ m n s t l z c. let k = fed_call c in (k.1, k.2))

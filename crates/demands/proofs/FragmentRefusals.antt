@@ -11,11 +11,13 @@ use Rattle.numbers.specs.Pick.{pick}
 use Rattle.numbers.proofs.Tests.{both}
 use Rattle.registers.specs.State.{State, sized}
 use Rattle.registers.specs.Held.{held, bits_in, bits_of}
+use Rattle.words.specs.Reasons.{number_of as number}
+use Rattle.words.specs.declared.Reason.{Reason}
+use Rattle.words.specs.declared.Reason.TheVariants.{BufferLength, CodeWithoutName, DepthAboveLargest, NotBuilt}
 use Rattle.words.specs.declared.Refusal.{Refusal}
 use Rattle.settings.specs.declared.records.Settings.{Settings}
 use Rattle.decode.specs.Codes.{Check, stage_checks, frame_checks, checks, lacks_at}
-use Rattle.decode.specs.Decoded.{settings_of, nameless_id, refusal, decoded_of, decodable, refusal_of, number_of, values_of}
-use Rattle.decode.specs.declared.Decoded.TheVariants as decoded
+use Rattle.decode.specs.Decoded.{settings_of, nameless_id, refusal, decoded_of, decodable, refusal_of, values_of}
 use Rattle.decode.proofs.Lowest.{refused_lowest}
 use Rattle.decode.proofs.Cases.{decodable_held, else_refused}
 use Rattle.fragment.proofs.Unbuilt.{drawn_lowest}
@@ -25,9 +27,8 @@ use Rattle.stores.specs.declared.Stored.{Stored}
 use Rattle.fragment.specs.Drawn.{unbuilt_at, unbuilt_id, outcome_of, drawn_with, drawn_from, drawn_of}
 use Rattle.fragment.specs.Drawn.{refusal as draw-refusal, number_of as draw-number, values_of as draw-values}
 use Rattle.fragment.specs.declared.Outcome.{Outcome}
-use Rattle.fragment.specs.declared.Drawn.{Drawn}
-use Rattle.fragment.specs.declared.Drawn.TheVariants as drawn
 use Rattle.demands.specs.FragmentRefusals.{HeldId, top_of, DecodeRefused, DepthRefused, DrawRefused}
+use Rattle.std.specs.Prelude.{Result, Ok, Err}
 
 -- THE IDS ARE HELD
 
@@ -85,27 +86,32 @@ unbuilt_held x i e = by_unbuilt i (eqb i 0xE0) (eqb i 0x100) (eqb i 0x117) _ _ _
 
 -- DECODING
 
-by_lengths : (s : State) (n p : ℕ) (a b : Bool) → sized s ≡ a
-    → pick a (pick b (decoded.Held (settings_of s)) (refusal 13 (nameless_id s))) (refusal 6 0) ≡ refusal n p
-    → ((n ≡ 6) × (p ≡ 0) × (sized s ≡ false)) ⊎ ((n ≡ 13) × (sized s ≡ true))
-by_lengths s n p true true t e = absurd (let z : ◌≡◌ {A = ℕ} 0 1 = cc in omega arith)
-by_lengths s n p true false t e = inr (sym (ap number_of e), t)
-by_lengths s n p false b t e = let z = ap values_of e in inl (sym (ap number_of e), cc, t)
+-- why an answer refuses; of one that doesn't, anything
+abbrev reason_in : {A : Type 0} → Result A Refusal → Reason
+reason_in (Ok x) = BufferLength
+reason_in (Err r) = r.reason
 
-number_row : (s : State) (n p : ℕ) → decoded_of s ≡ refusal n p
-    → ((n ≡ 6) × (p ≡ 0) × (sized s ≡ false)) ⊎ ((n ≡ 13) × (sized s ≡ true))
+by_lengths : (s : State) (n : Reason) (p : ℕ) (a b : Bool) → sized s ≡ a
+    → pick a (pick b (Ok (settings_of s)) (refusal CodeWithoutName (nameless_id s))) (refusal BufferLength 0) ≡ refusal n p
+    → ((n ≡ BufferLength) × (p ≡ 0) × (sized s ≡ false)) ⊎ ((n ≡ CodeWithoutName) × (sized s ≡ true))
+by_lengths s n p true true t e = absurd (let z : ◌≡◌ {A = ℕ} 0 1 = cc in omega arith)
+by_lengths s n p true false t e = inr (sym (ap reason_in e), t)
+by_lengths s n p false b t e = let z = ap values_of e in inl (sym (ap reason_in e), cc, t)
+
+number_row : (s : State) (n : Reason) (p : ℕ) → decoded_of s ≡ refusal n p
+    → ((n ≡ BufferLength) × (p ≡ 0) × (sized s ≡ false)) ⊎ ((n ≡ CodeWithoutName) × (sized s ≡ true))
 unfolding decoded_of
 number_row s n p e = by_lengths s n p (sized s) (eqb (nameless_id s) 0) refl e
 
-pub decode_row : (s : State) (n p : ℕ) → decoded_of s ≡ refusal n p → DecodeRefused s n p
+pub decode_row : (s : State) (n : Reason) (p : ℕ) → decoded_of s ≡ refusal n p → DecodeRefused s (number n) p
 decode_row s n p e = go (number_row s n p e)
   where
-    go : ((n ≡ 6) × (p ≡ 0) × (sized s ≡ false)) ⊎ ((n ≡ 13) × (sized s ≡ true)) → DecodeRefused s n p
-    go (inl r) = inl r
+    go : ((n ≡ BufferLength) × (p ≡ 0) × (sized s ≡ false)) ⊎ ((n ≡ CodeWithoutName) × (sized s ≡ true)) → DecodeRefused s (number n) p
+    go (inl r) = inl (ap number r.0, r.1, r.2)
     go (inr z) =
         let l = refused_lowest s p (rw z.0 at e) in
         let h = lacking_held (checks (settings_of s)) p (checks_held (settings_of s)) l.0 in
-        inr (record { number = z.0; lengths = z.1; held = h; why = l.0; lowest = l.1 })
+        inr (record { number = ap number z.0; lengths = z.1; held = h; why = l.0; lowest = l.1 })
 
 -- A FRAGMENT
 
@@ -129,16 +135,16 @@ module _ (s : State) (incoming : ℕ) (stored : Stored) where
   x = settings_of s
 
   -- the tests after decoding, in their order
-  abbrev Tested : Drawn → Bool → Bool → Bool → Drawn
-  Tested done a b c = pick a (pick b (draw-refusal 12 0) (pick c (draw-refusal 12 1) done)) (draw-refusal 14 (unbuilt_id x))
+  abbrev Tested : Result Outcome Refusal → Bool → Bool → Bool → Result Outcome Refusal
+  Tested done a b c = pick a (pick b (draw-refusal DepthAboveLargest 0) (pick c (draw-refusal DepthAboveLargest 1) done)) (draw-refusal NotBuilt (unbuilt_id x))
 
-  module _ (n p : ℕ) (held : decoded_of s ≡ decoded.Held (settings_of s)) where
+  module _ (n : Reason) (p : ℕ) (held : decoded_of s ≡ Ok (settings_of s)) where
     -- 14, or 12 by one of the depths
     abbrev Later : Type 0
-    Later = (n ≡ 14) ⊎ DepthRefused s incoming stored.depth n p
+    Later = (n ≡ NotBuilt) ⊎ DepthRefused s incoming stored.depth (number n) p
 
     by_depth : (o : Outcome) (a b c : Bool) → eqb (unbuilt_id x) 0 ≡ a → ltb (top_of s) incoming ≡ b → ltb (top_of s) stored.depth ≡ c
-        → Tested (drawn.Done o) a b c ≡ draw-refusal n p → Later
+        → Tested (Ok o) a b c ≡ draw-refusal n p → Later
     by_depth o true true c v t u e =
         let z = ap draw-values e in
         let built = all_built x (eqb-true (unbuilt_id x) 0 v) in
@@ -154,37 +160,39 @@ module _ (s : State) (incoming : ℕ) (stored : Stored) where
           why = inr (cc, ltb-false (top_of s) incoming t, ltb-true (top_of s) stored.depth u);
         })
     by_depth o true false false v t u e = absurd (let z : ◌≡◌ {A = ℕ} 0 1 = cc in omega arith)
-    by_depth o false b c v t u e = inl (sym (ap draw-number e))
+    by_depth o false b c v t u e = inl (sym (ap reason_in e))
 
     with_row : (g : Given) → drawn_with (settings_of s) g incoming stored ≡ draw-refusal n p → Later
     unfolding drawn_with
     with_row g e = by_depth (outcome_of x g incoming stored) _ _ _ refl refl refl e
 
   -- by what decoding gives: a fragment hands its refusals on
-  same : (r : Refusal) (n p : ℕ) → drawn.Refused r ≡ draw-refusal n p → r ≡ record { number = n; place = p }
+  same : (r : Refusal) (n : Reason) (p : ℕ) → Err r ≡ draw-refusal n p → r ≡ record { reason = n; place = p }
   same r n p e = cc
 
-  from_decoded : (n p : ℕ) (g : Given) (t : Bool) → decodable s ≡ t → drawn_of s g incoming stored ≡ draw-refusal n p
-      → DecodeRefused s n p ⊎ (n ≡ 14) ⊎ DepthRefused s incoming stored.depth n p
+  from_decoded : (n : Reason) (p : ℕ) (g : Given) (t : Bool) → decodable s ≡ t → drawn_of s g incoming stored ≡ draw-refusal n p
+      → DecodeRefused s (number n) p ⊎ (n ≡ NotBuilt) ⊎ DepthRefused s incoming stored.depth (number n) p
   unfolding drawn_from
   from_decoded n p g true d e = let h = decodable_held s d in inr (with_row n p h g (rw h at e))
   from_decoded n p g false d e =
       let q = else_refused s d in
-      let r : refusal_of s ≡ record { number = n; place = p } = same (refusal_of s) n p (rw q at e) in
-      inl (decode_row s n p (q ∙ ap decoded.Refused r))
+      let r : refusal_of s ≡ record { reason = n; place = p } = same (refusal_of s) n p (rw q at e) in
+      inl (decode_row s n p (q ∙ ap Err r))
 
-  pub draw_row : (n p : ℕ) (g : Given) → drawn_of s g incoming stored ≡ draw-refusal n p → DrawRefused s incoming stored.depth n p
+  pub draw_row : (n : Reason) (p : ℕ) (g : Given) → drawn_of s g incoming stored ≡ draw-refusal n p
+      → DrawRefused s incoming stored.depth (number n) p
   draw_row n p g e = go (from_decoded n p g (decodable s) refl e)
     where
-      go : DecodeRefused s n p ⊎ (n ≡ 14) ⊎ DepthRefused s incoming stored.depth n p → DrawRefused s incoming stored.depth n p
+      go : DecodeRefused s (number n) p ⊎ (n ≡ NotBuilt) ⊎ DepthRefused s incoming stored.depth (number n) p
+          → DrawRefused s incoming stored.depth (number n) p
       go (inl r) = inl r
       go (inr (inr r)) = inr (inr r)
       go (inr (inl z)) =
           let l = drawn_lowest s g incoming stored p (rw z at e) in
           let h = unbuilt_held (settings_of s) p l.1 in
-          inr (inl (record { number = z; decoded = l.0; held = h; why = l.1; lowest = l.2 }))
+          inr (inl (record { number = ap number z; decoded = l.0; held = h; why = l.1; lowest = l.2 }))
 
   -- AN ANSWER comes only where all of that passed
-  pub done_only : (g : Given) (o : Outcome) → drawn_with (settings_of s) g incoming stored ≡ drawn.Done o
+  pub done_only : (g : Given) (o : Outcome) → drawn_with (settings_of s) g incoming stored ≡ Ok o
       → ((j : ℕ) → unbuilt_at (settings_of s) j ≡ false) × (incoming ≤ top_of s) × (stored.depth ≤ top_of s)
   done_only g o e = let r = drawn_tested (settings_of s) g incoming stored o e in (all_built x r.0, r.1, r.2)

@@ -23,15 +23,10 @@ use Rattle.parts.specs.Progress.{fresh, between, closing}
 use Rattle.pieces.specs.Pieces.{wrong_length, both_sized, opening, fed, feeding, close_answer, close_answers}
 use Rattle.pieces.specs.Pieces as pieces
 use Rattle.parts.specs.declared.Progress.{Progress}
-use Rattle.pieces.specs.declared.Going.TheVariants.{Come}
 use Rattle.writes.specs.Listed.{writes_answer}
 use Rattle.packer.specs.Packing.{pack_answer}
 use Rattle.decode.specs.Decoded.{decoded_of}
-use Rattle.decode.specs.declared.Decoded.{Decoded}
-use Rattle.decode.specs.declared.Decoded.TheVariants as decoded
 use Rattle.stores.specs.Tests.{verdict_number}
-use Rattle.fragment.specs.declared.Drawn.{Drawn}
-use Rattle.fragment.specs.declared.Drawn.TheVariants as drawn
 use Rattle.pica.specs.Calls.{call, answer, answers, decode_call, given_of, stored_of, fragment_of, fragment_call}
 use Rattle.pica.proofs.Uncut.{value_in, read_uncut, feed_uncut, close_uncut, write_uncut, writes_uncut, pack_uncut}
 use Rattle.pica.proofs.Uncut.{place_of, decode_uncut, drawn_value, fragment_uncut}
@@ -42,6 +37,10 @@ use Rattle.demands.proofs.Refusals.{fault_numbered, read_row, write_row}
 use Rattle.demands.proofs.RunRefusals.{pack_row}
 use Rattle.demands.proofs.Listed.{writes_row}
 use Rattle.demands.proofs.FragmentRefusals.{decode_row, draw_row}
+use Rattle.std.specs.Prelude.{Result, Ok, Err}
+use Rattle.settings.specs.declared.records.Settings.{Settings}
+use Rattle.fragment.specs.declared.Outcome.{Outcome}
+use Rattle.words.specs.Reasons.{number_of}
 
 -- high 32 bits the refusal's number, 0 for none; low 32 bits the answer or the place
 abbrev pub as_taken : ℕ → Answer
@@ -122,7 +121,7 @@ pub open_taken : (live spare : State) → as_taken (answer (pieces.told (opening
 unfolding opening
 open_taken live spare = go (both_sized live spare)
   where
-    go : (b : Bool) → let a = pieces.told (pick b (Come fresh) wrong_length) in as_taken (answer a) ≡ a
+    go : (b : Bool) → let a = pieces.told (pick b (Ok fresh) wrong_length) in as_taken (answer a) ≡ a
     go true = refl
     go false = refl
 
@@ -133,7 +132,7 @@ feed_numbered : (p : Progress) (spare : State) (l : List ℕ) → Numbered (piec
 unfolding feeding
 feed_numbered p spare l = go (sized spare)
   where
-    go : (b : Bool) → Numbered (pieces.told (pick b (Come (fed p spare l)) wrong_length))
+    go : (b : Bool) → Numbered (pieces.told (pick b (Ok (fed p spare l)) wrong_length))
     go true = λ n q e z. told_apart e
     go false = above_zero 6 0 (omega arith)
 
@@ -171,13 +170,13 @@ close_taken p live spare h g =
     ∙ taken (close_answer p live spare) (close_uncut p live spare h g) (close_numbered p live spare)
 
 -- of those that the promises of `pica_decode` and `pica_fragment` give
-abbrev pub decode_answer : Decoded → Answer
-decode_answer (decoded.Held x) = answered 0
-decode_answer (decoded.Refused r) = refused r.number r.place
+abbrev pub decode_answer : Result Settings Refusal → Answer
+decode_answer (Ok x) = answered 0
+decode_answer (Err r) = refused (number_of r.reason) r.place
 
-abbrev pub fragment_answer : Drawn → Answer
-fragment_answer (drawn.Done o) = answered (verdict_number o.verdict)
-fragment_answer (drawn.Refused r) = refused r.number r.place
+abbrev pub fragment_answer : Result Outcome Refusal → Answer
+fragment_answer (Ok o) = answered (verdict_number o.verdict)
+fragment_answer (Err r) = refused (number_of r.reason) r.place
 
 decode_numbered : (s : State) (n p : ℕ) → DecodeRefused s n p → n ≡ 0 → ⊥
 decode_numbered s n p (inl r) z = omega (arith, r.0)
@@ -188,21 +187,21 @@ draw_numbered s incoming stored n p (inl r) z = decode_numbered s n p r z
 draw_numbered s incoming stored n p (inr (inl r)) z = omega (arith, r.number)
 draw_numbered s incoming stored n p (inr (inr r)) z = omega (arith, r.number)
 
-by_decoded : (d : Decoded) → place_of d ≤ 0x117 → ((r : Refusal) → d ≡ decoded.Refused r → r.number ≡ 0 → ⊥)
+by_decoded : (d : Result Settings Refusal) → place_of d ≤ 0x117 → ((r : Refusal) → d ≡ Err r → (number_of r.reason) ≡ 0 → ⊥)
     → as_taken (decode_call d) ≡ decode_answer d
-by_decoded (decoded.Held x) h z = refl
-by_decoded (decoded.Refused r) h z =
-    taken (refused r.number r.place) (omega arith) (λ n p e y. z r refl (number_one e ∙ y))
+by_decoded (Ok x) h z = refl
+by_decoded (Err r) h z =
+    taken (refused (number_of r.reason) r.place) (omega arith) (λ n p e y. z r refl (number_one e ∙ y))
 
 pub decode_taken : (s : State) → as_taken (decode_call (decoded_of s)) ≡ decode_answer (decoded_of s)
 decode_taken s =
-    by_decoded (decoded_of s) (decode_uncut s) (λ r e. decode_numbered s r.number r.place (decode_row s r.number r.place e))
+    by_decoded (decoded_of s) (decode_uncut s) (λ r e. decode_numbered s (number_of r.reason) r.place (decode_row s r.reason r.place e))
 
-by_drawn : (d : Drawn) → drawn_value d ≤ 0x117 → ((r : Refusal) → d ≡ drawn.Refused r → r.number ≡ 0 → ⊥)
+by_drawn : (d : Result Outcome Refusal) → drawn_value d ≤ 0x117 → ((r : Refusal) → d ≡ Err r → (number_of r.reason) ≡ 0 → ⊥)
     → as_taken (fragment_call d) ≡ fragment_answer d
-by_drawn (drawn.Done o) h z = taken (answered (verdict_number o.verdict)) (omega arith) (λ n p e y. told_apart e)
-by_drawn (drawn.Refused r) h z =
-    taken (refused r.number r.place) (omega arith) (λ n p e y. z r refl (number_one e ∙ y))
+by_drawn (Ok o) h z = taken (answered (verdict_number o.verdict)) (omega arith) (λ n p e y. told_apart e)
+by_drawn (Err r) h z =
+    taken (refused (number_of r.reason) r.place) (omega arith) (λ n p e y. z r refl (number_one e ∙ y))
 
 pub fragment_taken : (s : State) (words : List ℕ) → as_taken (fragment_call (fragment_of s words)) ≡ fragment_answer (fragment_of s words)
 fragment_taken s words =
@@ -211,4 +210,4 @@ fragment_taken s words =
     let stored = stored_of words in
     by_drawn (fragment_of s words) (fragment_uncut s g incoming stored)
     (λ r e.
-    draw_numbered s incoming stored.depth r.number r.place (draw_row s incoming stored r.number r.place g e))
+    draw_numbered s incoming stored.depth (number_of r.reason) r.place (draw_row s incoming stored r.reason r.place g e))

@@ -19,13 +19,11 @@ use Rattle.copies.specs.Copy.{taken}
 use Rattle.commands.proofs.Applying.{apply_none}
 use Rattle.reader.specs.ListVerdict.{verdict}
 use Rattle.reader.specs.Read.{told_both, read_answer, read_answers, read_state}
-use Rattle.reader.specs.declared.Reading.{Reading}
 use Rattle.reader.proofs.Accepted.{verdict_accepted}
 use Rattle.reader.proofs.Once.{both_one}
 use Rattle.parts.specs.Progress.{fresh, plus, after, made, held_at, onward, closing}
 use Rattle.pieces.specs.Pieces.{both_sized, opening, opened_spare, close_answer, close_answers, close_progress, closed_live, closed_spare}
 use Rattle.parts.specs.declared.Progress.{Progress}
-use Rattle.pieces.specs.declared.Going.TheVariants.{Come}
 use Rattle.pieces.specs.declared.Closed.{Closed}
 use Rattle.parts.proofs.Closing.{closes_long}
 use Rattle.parts.proofs.Counts.{come_held}
@@ -41,6 +39,9 @@ use Rattle.demands.proofs.Differ.{differences_alike}
 use Rattle.demands.proofs.Tallies.{closing_tallied}
 use Rattle.demands.proofs.Calls.{ReadCall, read_call, OpenCall, open_call, CloseCall, close_call}
 use Rattle.demands.proofs.Feeds.{joined, Feeds, come_no_refusal, come_one, feeds_joined}
+use Rattle.std.specs.Prelude.{Result, Ok}
+use Rattle.words.specs.declared.Refusal.{Refusal}
+use Rattle.reader.specs.declared.Counts.{Counts}
 
 -- the spare state is in step with the live one, and no word has come
 pub record Opened (live : State) (p : Progress) (s : State) : Type 0 where
@@ -53,10 +54,10 @@ pub both_sized_law : (live spare : State) → both_sized live spare ≡ true →
 both_sized_law live spare e = and_true (sized live) (sized spare) e
 
 -- "opening gives its held bits and entries the live one's values"
-pub open_opens : {live spare s : State} {p : Progress} → OpenCall live spare (Come p) s → Opened live p s
+pub open_opens : {live spare s : State} {p : Progress} → OpenCall live spare (Ok p) s → Opened live p s
 open_opens {live} {spare} {s} {p} c = go (both_sized live spare) refl (open_call c)
   where
-    go : (b : Bool) → both_sized live spare ≡ b → (Come p ≡ opening live spare) × (s ≡ opened_spare live spare) → Opened live p s
+    go : (b : Bool) → both_sized live spare ≡ b → (Ok p ≡ opening live spare) × (s ≡ opened_spare live spare) → Opened live p s
     go true e k =
         let r = open_right live spare e in
         let d = both_sized_law live spare e in
@@ -213,7 +214,7 @@ module _ {live s t live' spare' : State} {p q : Progress} {c : Closed} (ls : Lis
       (told_both c.verdict) c.progress live' spare' closes
 
   -- against a call of `read` on the live state and the joined list: the same verdict, writes, differences and live state
-  pub as_read : {r : Reading} {u : State} → Words live → Words s → ReadCall live (joined ls) r u → (c.verdict ≡ r) × (live' ≡ u)
+  pub as_read : {r : Result Counts Refusal} {u : State} → Words live → Words s → ReadCall live (joined ls) r u → (c.verdict ≡ r) × (live' ≡ u)
   as_read {r} {u} w v x =
       let y = read_call x in
       (both_one c.verdict r (in_pieces.answers w v ∙ sym y.0), in_pieces.state w ∙ sym y.1)

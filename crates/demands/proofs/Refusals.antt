@@ -15,9 +15,9 @@ use Rattle.numbers.proofs.Answers.{told_apart, number_one, place_one}
 use Rattle.numbers.proofs.Picks.{pick_either}
 use Rattle.words.specs.Writes.{Write, kept, jumps, port_data, fault_of}
 use Rattle.words.specs.Commands.{header_at, whole, expand, commands, legal}
+use Rattle.std.specs.Prelude.{Ok, Err}
 use Rattle.words.specs.Taken.{parts_of, head_of}
 use Rattle.words.specs.declared.Refusal.{Refusal}
-use Rattle.words.specs.declared.Head.TheVariants as head
 use Rattle.registers.specs.State.{State, sized}
 use Rattle.registers.specs.Applied.{difference}
 use Rattle.registers.specs.Single.{refusal_of, write_answer}
@@ -25,6 +25,8 @@ use Rattle.reader.specs.ListVerdict.{first_fault, command_fault, judge, judged, 
 use Rattle.reader.specs.Read.{read_answer}
 use Rattle.reader.proofs.Accepted.{judge_none, judge_more, judged_of_law}
 use Rattle.demands.specs.Refusals.{In, FaultNumber, FirstAtFault, ListRefused, ReadRefused, WriteRefused}
+use Rattle.words.specs.Reasons.{number_of}
+use Rattle.words.specs.declared.Reason.TheVariants.{WordsMissing}
 
 -- A WRITE'S FAULT is 3, 4 or 5
 
@@ -59,13 +61,13 @@ first_number (w ∷ ws) =
 -- A HEADER: 2 at the command's first word, where its words aren't all there
 
 by_words : (l : List ℕ) (at : ℕ) (b : Bool) (r : Refusal) → whole l at ≡ b
-    → pick b (head.Taken (parts_of (header_at l at))) (head.Refused (record { number = 2; place = at })) ≡ head.Refused r
-    → (r.number ≡ 2) × (r.place ≡ at) × (whole l at ≡ false)
+    → pick b (Ok (parts_of (header_at l at))) (Err (record { reason = WordsMissing; place = at })) ≡ Err r
+    → ((number_of r.reason) ≡ 2) × (r.place ≡ at) × (whole l at ≡ false)
 by_words l at true r t e = absurd (let z : ◌≡◌ {A = ℕ} 0 1 = cc in omega arith)
 by_words l at false r t e = (cc, cc, t)
 
-pub head_row : (l : List ℕ) (at : ℕ) (r : Refusal) → head_of l at ≡ head.Refused r
-    → (r.number ≡ 2) × (r.place ≡ at) × (whole l at ≡ false)
+pub head_row : (l : List ℕ) (at : ℕ) (r : Refusal) → head_of l at ≡ Err r
+    → ((number_of r.reason) ≡ 2) × (r.place ≡ at) × (whole l at ≡ false)
 unfolding head_of
 head_row l at r e = by_words l at (whole l at) r refl e
 

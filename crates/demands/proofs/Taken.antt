@@ -6,24 +6,25 @@ use Prim.Native.Nat.{ℕ, zero, suc, ◌%◌, ◌^◌, ◌<◌}
 use native.Mathlib.Nat.{zero-div}
 use native.Mathlib.Decide.{dec_lt}
 use native.Mathlib.Omega.{arith}
-use lib.Bits.{bit_and, and_mask, and_le_l, and_le_r, and_zero_r}
+use lib.Bits.{bit_and, and_mask, and_le_r, and_zero_r}
 use lib.Dec.{eqb}
-use lib.ListN.{length, get_or, set, get_or-eq_default}
-use lib.Seq.{get_or-set_same, get_or-set_other, set_out, ext_get_or}
-use borrow.Author.Tests.{eqb-true, eqb-false}
+use lib.ListN.{length, get_or, get_or-eq_default}
+use lib.Seq.{ext_get_or}
+use borrow.Author.Tests.{eqb-true}
 use Rattle.numbers.specs.Pick.{pick}
 use Rattle.numbers.specs.Bits.{bit, spread, merge, pick_bit}
 use Rattle.numbers.proofs.Picks.{pick_either}
 use Rattle.numbers.proofs.Merge.{and_bit, bits_equal, merge_bit, merge_word}
 use Rattle.words.specs.Writes.{Write, fog_data, light_data}
-use Rattle.ports.specs.Ports.{rise, fog_cells, light_cells}
 use Rattle.registers.specs.State.{State, sized}
 use Rattle.registers.specs.Held.{bits_of}
-use Rattle.registers.specs.Applied.{cells_after, put, apply, apply_all}
+use Rattle.registers.specs.Applied.{put, apply, apply_all}
 use Rattle.registers.proofs.Sizes.{lengths}
 use Rattle.copies.specs.Copy.{cell_taking, entry_taking, taking, taken}
 use Rattle.copies.proofs.Copies.{taking_long, taking_done, taking_later, taken_is}
-use Rattle.demands.proofs.Alike.{Alike, held_small}
+use Rattle.demands.proofs.Alike.{Alike}
+use Rattle.registers.specs.State.{Words as words}
+use Rattle.registers.proofs.Words.{held_small, fog_words, light_words, cell_words}
 use Rattle.demands.proofs.Lengths.{apply_sized}
 use Rattle.demands.proofs.Unheld.{run_keeps, unheld_kept, fog_entries_only, light_entries_only}
 
@@ -32,43 +33,14 @@ pub sized_kept : (s : State) (ws : List Write) → sized (apply_all s ws) ≡ si
 sized_kept = run_keeps sized apply_sized
 
 -- WORDS: a state's cells are 32-bit words, before and after any run of writes
-abbrev Small : List ℕ → Type 0
-Small l = (j : ℕ) → get_or l j 0 < 0x100000000
-
 abbrev pub Words : State → Type 0
-Words s = Small s.cells
-
-set_small : (l : List ℕ) (i v : ℕ) → Small l → v < 0x100000000 → Small (set l i v)
-set_small l i v h b j = go (eqb j i) refl (dec_lt i (length l))
-  where
-    go : (t : Bool) → eqb j i ≡ t → Dec (i < length l) → get_or (set l i v) j 0 < 0x100000000
-    go false d q = rw (get_or-set_other l i j v 0 (eqb-false j i d)) (h j)
-    go true d (yes q) = rw (eqb-true j i d, get_or-set_same l i v 0 q) b
-    go true d (no q) = rw (set_out l i v (omega arith)) (h j)
-
-fog_words_law : (c : List ℕ) → Small c → Small (fog_cells c)
-unfolding fog_cells
-fog_words_law c h j = set_small c 0xE6 (rise 128 (get_or c 0xE6 0)) h (omega (arith, h 0xE6)) j
-
-light_words : (c : List ℕ) → Small c → Small (light_cells c)
-unfolding light_cells
-light_words c h j = set_small c 0x1C5 (rise 256 (get_or c 0x1C5 0)) h (omega (arith, h 0x1C5)) j
-
-cell_words : (c : List ℕ) (i e v : ℕ) → Small c → Small (cells_after c i e v)
-unfolding cells_after
-cell_words c i e v h j = go (eqb (bits_of i) 0)
-  where
-    go : (b : Bool) → get_or (pick b c (set c i (merge (bit_and (bits_of i) e) (get_or c i 0) v))) j 0 < 0x100000000
-    go true = h j
-    go false =
-        set_small c i (merge (bit_and (bits_of i) e) (get_or c i 0) v) h
-        (merge_word (bit_and (bits_of i) e) (get_or c i 0) v (omega (arith, held_small i, and_le_l (bits_of i) e))) j
+Words s = words s.cells
 
 pub write_words : (s : State) (w : Write) → Words s → Words (apply s w)
 unfolding put
 write_words s w h =
     let P : State → Type 0 = Words in
-    pick_either P (fog_data w.id) (fog_words_law s.cells h)
+    pick_either P (fog_data w.id) (fog_words s.cells h)
     (pick_either P (light_data w.id) (light_words s.cells h)
     (cell_words s.cells w.id (spread w.mask) w.value h))
 

@@ -12,10 +12,11 @@ use Rattle.lines.specs.Text.{ascii}
 use Rattle.lines.specs.Lines.{line_of}
 use Rattle.packer.specs.Packing.{pack_answer, pack_space}
 use Rattle.decode.specs.Decoded.{decoded_of}
-use Rattle.decode.specs.declared.Decoded.{Decoded}
-use Rattle.decode.specs.declared.Decoded.TheVariants as decoded
 use Rattle.combiner.specs.declared.Given.{Given}
 use Rattle.fragment.specs.Drawn.{drawn_of, values_of}
+use Rattle.std.specs.Prelude.{Result, Ok, Err}
+use Rattle.words.specs.declared.Refusal.{Refusal}
+use Rattle.settings.specs.declared.records.Settings.{Settings}
 
 pub record Case : Type 0 where
   pub got : List ℤ
@@ -67,9 +68,9 @@ abbrev minus : ℕ → ℤ
 minus zero = pos 0
 minus (suc n) = negsuc n
 
-abbrev fields_of68 : Decoded → List ℤ
-fields_of68 (decoded.Held s) = let xy = s.rasteriser.viewport.xy in xy.x ∷ xy.y ∷ []
-fields_of68 (decoded.Refused r) = []
+abbrev fields_of68 : Result Settings Refusal → List ℤ
+fields_of68 (Ok s) = let xy = s.rasteriser.viewport.xy in xy.x ∷ xy.y ∷ []
+fields_of68 (Err r) = []
 
 abbrev offsets : ℕ → ℤ → Case
 offsets x n = record { got = fields_of68 (decoded_of (state (cell 0x68 (x + x * 0x10000) ∷ []))); want = n ∷ n ∷ [] }

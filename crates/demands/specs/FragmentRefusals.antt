@@ -3,8 +3,8 @@ use Rattle.std.specs.Prelude.{◌≡◌, true, false, ◌⊎◌, ℕ, ◌≤◌,
 use Rattle.registers.specs.State.{State, sized}
 use Rattle.registers.specs.Held.{bits_of}
 use Rattle.decode.specs.Decoded.{settings_of, nameless, decoded_of}
-use Rattle.decode.specs.declared.Decoded.TheVariants.{Held}
 use Rattle.fragment.specs.Drawn.{unbuilt_at, largest}
+use Rattle.std.specs.Prelude.{Ok}
 
 -- a register's id that is held
 abbrev pub HeldId : ℕ → Type 0
@@ -25,7 +25,7 @@ DecodeRefused s n p = ((n ≡ 6) × (p ≡ 0) × (sized s ≡ false)) ⊎ CodeRe
 -- 14, of a state that is decoded: the place is the lowest id that asks for what is not built
 pub record UnbuiltRefused (s : State) (n p : ℕ) : Type 0 where
   pub number : n ≡ 14
-  pub decoded : decoded_of s ≡ Held (settings_of s)
+  pub decoded : decoded_of s ≡ Ok (settings_of s)
   pub held : HeldId p
   pub why : unbuilt_at (settings_of s) p ≡ true
   pub lowest : (j : ℕ) → unbuilt_at (settings_of s) j ≡ true → p ≤ j
@@ -37,7 +37,7 @@ top_of s = largest (settings_of s).framebuffer.buffers.depth_format
 -- 12, of a state that is decoded and built: a depth above the format's largest, "0 incoming, 1 stored", incoming first
 pub record DepthRefused (s : State) (incoming stored : ℕ) (n p : ℕ) : Type 0 where
   pub number : n ≡ 12
-  pub decoded : decoded_of s ≡ Held (settings_of s)
+  pub decoded : decoded_of s ≡ Ok (settings_of s)
   pub built : (j : ℕ) → unbuilt_at (settings_of s) j ≡ false
   pub why : ((p ≡ 0) × (top_of s < incoming)) ⊎ ((p ≡ 1) × (incoming ≤ top_of s) × (top_of s < stored))
 

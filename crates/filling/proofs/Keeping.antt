@@ -6,12 +6,12 @@ use native.Mathlib.Numerals.{add-one}
 use native.Mathlib.Omega.{arith}
 use lib.ListN.{length, get_or, take, drop, set, length-set, length-drop, drop_of_length-le}
 use lib.Seq.{take_all, drop_at, set_split, length-take-le}
-use Rattle.words.specs.Writes.{Write, writing, kept}
+use Rattle.words.specs.Writes.{Write, writing}
 use Rattle.words.proofs.Laws.{kept_none, kept_drops, kept_keeps}
-use Rattle.runs.specs.PackedList.{writes, PackableRun, packed, filled, written}
+use Rattle.runs.specs.PackedList.{writes, PackableRun}
 use Rattle.runs.proofs.Kept.{kept_is}
 use Rattle.runs.proofs.Writes.{writes_length, writes_at}
-use Rattle.filling.specs.Putting.{Keeps, Puts}
+use Rattle.filling.specs.Putting.{Keeps}
 
 -- what a store leaves from its place on
 drop_set : (l : List ℕ) (r x : ℕ) → r < length l → drop r (set l r x) ≡ x ∷ drop (r + 1) l
@@ -75,9 +75,6 @@ to_end l r = take_all (length l - r) (drop r l) (omega (arith, length-drop r l))
 
 -- WHAT IS KEPT, as the three parts from r to the end
 module _ (is ms vs ks ns us : List ℕ) (r : ℕ) (K : Keeps (writes is ms vs) r ks ns us) where
-  pub parts_writes : writes (end ks r) (end ns r) (end us r) ≡ kept (writes is ms vs)
-  parts_writes = rw (to_end ks r, to_end ns r, to_end us r) K.writes
-
   module _ (G : PackableRun is ms vs) where
     level_masks : length (drop r ks) ≡ length (drop r ns)
     level_masks = omega (arith, length-drop r ks, length-drop r ns, K.masks)
@@ -103,8 +100,3 @@ module _ (is ms vs ks ns us : List ℕ) (r : ℕ) (K : Keeps (writes is ms vs) r
           few = omega (arith, few, G.few);
           packable = rw K.writes ((kept_is (writes is ms vs)).packable G.packable);
         })
-
--- where these are the writes that are kept, their list is the one written
-pub puts_kept : (ws ks : List Write) (n : ℕ) (old new : List ℕ) → ks ≡ kept ws → Puts (filled (packed ks)) n old new
-    → Puts (written ws) n old new
-puts_kept ws ks n old new e p = rw (← e) p

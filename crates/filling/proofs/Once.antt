@@ -5,12 +5,13 @@ use borrow.Fn.Kinds.{Dens}
 use contract.Lifetimes.{Lfts}
 use Rattle.numbers.specs.Room.{if_room, space_after}
 use Rattle.numbers.specs.Settled.{Settles, settled}
-use Rattle.runs.specs.PackedList.{writes, written}
+use Rattle.runs.specs.PackedList.{written}
+use Rattle.planning.specs.RunWrites.{run_writes}
 use Rattle.filling.proofs.put_list.Reads as put_list_reads
 use Rattle.filling.proofs.put_list.Kinds as put_list_kinds
 
-pub put_list_settled : (κs : Lfts 4) (a : Dens κs put_list_kinds.ps) → Settles (λ e. e.1.1.1.1.0.now) (put_list_reads.Post κs a)
+pub put_list_settled : (κs : Lfts 2) (a : Dens κs put_list_kinds.ps) → Settles (λ e. e.1.1.0.now) (put_list_reads.Post κs a)
 put_list_settled κs a =
-    let l = written (writes a.0.now a.1.0.now a.1.1.0.now) in
-    let old = a.1.1.1.1.0.now in
+    let l = written (run_writes a.0) in
+    let old = a.1.1.0.now in
     settled _ _ (λ r. r) (λ r r' e. e) (length l) (space_after (if_room 10 (length l) (length old)) l old) (λ r e p. (p.words, p.space))

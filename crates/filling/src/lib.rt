@@ -5,8 +5,11 @@
 
 ghost use Rattle.std.specs.Prelude.{◌≡◌, true, ◌∷◌, ◌++◌, ◌+◌, ◌≤◌, ◌<◌, length, take, drop};
 ghost use Rattle.words.specs.Writes.{kept};
-ghost use Rattle.runs.specs.PackedList.{writes, PackableRun, packed, filled, written};
+ghost use Rattle.runs.specs.PackedList.{packed, filled, written};
+ghost use Rattle.planning.specs.RunWrites.{run_writes};
 ghost use Rattle.filling.specs.Putting.{Keeps, Puts};
+
+use planning::Run;
 
 // Puts the pair that fills a list, parameter 0 and header 0, at `at`.
 fn put_pair(space: &mut [u32], at: usize)
@@ -18,19 +21,12 @@ fn put_pair(space: &mut [u32], at: usize)
 }
 
 // The list of all the writes, filled. `least` and `extra` are room to plan in.
-fn fill(
-    ids: &[u32],
-    masks: &[u32],
-    values: &[u32],
-    least: &mut [u16],
-    extra: &mut [u8],
-    space: &mut [u32],
-) -> usize
-    requires { PackableRun ids.now masks.now values.now × (length ids.now < length least.old) × (length ids.now ≤ length extra.old) }
-    ensures { Puts (filled (packed (writes ids.now masks.now values.now))) result space.old
+fn fill(given: Run, least: &mut [u16], extra: &mut [u8], space: &mut [u32]) -> usize
+    requires { (length given.ids.now < length least.old) × (length given.ids.now ≤ length extra.old) }
+    ensures { Puts (filled (packed (run_writes given.entry))) result space.old
         space.new }
 {
-    let laid = planning::plan_run(ids, masks, least, extra);
+    let laid = planning::plan_run(given.ids, given.masks, least, extra);
     let need = laid + laid % 4;
     if space.len() < need {
         return need;
@@ -40,137 +36,85 @@ fn fill(
     }
     // The pair comes first, and a list that needs none is laid out over it: whether it does, only chance decides.
     put_pair(space, need - 2);
-    laying::lay_out(ids, masks, values, extra, space);
+    laying::lay_out(given, extra, space);
     need
 }
 
 // Copies the writes whose mask isn't 0, in their order, to the end of the room lent for them, and answers where they start there.
-fn keep(
-    ids: &[u32],
-    masks: &[u32],
-    values: &[u32],
-    kept_ids: &mut [u32],
-    kept_masks: &mut [u32],
-    kept_values: &mut [u32],
-) -> usize
-    requires { (length ids.now ≡ length masks.now) × (length ids.now ≡ length values.now)
-        × (length ids.now ≤ length kept_ids.old) × (length kept_ids.old ≡ length kept_masks.old)
+fn keep(given: Run, kept_ids: &mut [u32], kept_masks: &mut [u32], kept_values: &mut [u32]) -> usize
+    requires { (length given.ids.now ≤ length kept_ids.old) × (length kept_ids.old ≡ length kept_masks.old)
         × (length kept_ids.old ≡ length kept_values.old) }
-    ensures { Keeps (writes ids.now masks.now values.now) result kept_ids.new kept_masks.new
+    ensures { Keeps (run_writes given.entry) result kept_ids.new kept_masks.new
         kept_values.new }
 {
-    let mut i = ids.len();
     let mut at = kept_ids.len();
-    while 0 < i {
-        i -= 1;
-        let mask = masks[i];
+    for i in (0..given.ids.len()).rev() {
+        let mask = given.masks[i];
         let unmasked = mask == 0;
         if unmasked {
             continue;
         }
         at -= 1;
-        kept_ids[at] = ids[i];
+        kept_ids[at] = given.ids[i];
         kept_masks[at] = mask;
-        kept_values[at] = values[i];
+        kept_values[at] = given.values[i];
     }
     at
 }
 
-// The list of the writes whose mask isn't 0, which are kept in the room lent for them.
-fn fill_parts(
-    ids: &[u32],
-    masks: &[u32],
-    values: &[u32],
-    kept_ids: &mut [u32],
-    kept_masks: &mut [u32],
-    kept_values: &mut [u32],
-    least: &mut [u16],
-    extra: &mut [u8],
+// The list of the writes whose mask isn't 0. Room to keep them in is made here, where it is needed: a call of its own, so that other runs
+// pay nothing for it.
+#[inline(never)]
+fn fill_kept<const N: usize>(
+    given: Run,
+    least: &mut [u16; N],
+    extra: &mut [u8; N],
     space: &mut [u32],
 ) -> usize
-    requires { PackableRun ids.now masks.now values.now × (length ids.now ≤ length kept_ids.old)
-        × (length kept_ids.old ≡ length kept_masks.old) × (length kept_ids.old ≡ length kept_values.old)
-        × (length ids.now < length least.old) × (length ids.now ≤ length extra.old) }
-    ensures { Puts (written (writes ids.now masks.now values.now)) result space.old
+    requires { (length given.ids.now < N) × (N ≤ 4097) }
+    ensures { Puts (written (run_writes given.entry)) result space.old
         space.new }
 {
-    let at = keep(ids, masks, values, kept_ids, kept_masks, kept_values);
-    fill(
-        &kept_ids[at..],
-        &kept_masks[at..],
-        &kept_values[at..],
-        least,
-        extra,
-        space,
-    )
+    let mut kept_ids = [0u32; N];
+    let mut kept_masks = [0u32; N];
+    let mut kept_values = [0u32; N];
+    let at = keep(given, &mut kept_ids, &mut kept_masks, &mut kept_values);
+    let ids = &kept_ids[..];
+    let masks = &kept_masks[..];
+    let values = &kept_values[..];
+    let kept = Run {
+        ids: &ids[at..],
+        masks: &masks[at..],
+        values: &values[at..],
+    };
+    fill(kept, least, extra, space)
 }
 
-// The same, with room to keep them in, which is made here, where it is needed.
-fn fill_kept(
-    ids: &[u32],
-    masks: &[u32],
-    values: &[u32],
-    least: &mut [u16],
-    extra: &mut [u8],
-    space: &mut [u32],
-) -> usize
-    requires { PackableRun ids.now masks.now values.now × (length ids.now < length least.old) × (length ids.now ≤ length extra.old) }
-    ensures { Puts (written (writes ids.now masks.now values.now)) result space.old
+// The list written for fewer than N writes, with room to plan in for so many.
+fn put_within<const N: usize>(given: Run, live: bool, space: &mut [u32]) -> usize
+    requires { (length given.ids.now < N) × (N ≤ 4097)
+        × (live ≡ true → kept (run_writes given) ≡ run_writes given) }
+    ensures { Puts (written (run_writes given.entry)) result space.old
         space.new }
 {
-    if ids.len() <= 128 {
-        let mut kept_ids = [0u32; 128];
-        let mut kept_masks = [0u32; 128];
-        let mut kept_values = [0u32; 128];
-        return fill_parts(
-            ids,
-            masks,
-            values,
-            &mut kept_ids,
-            &mut kept_masks,
-            &mut kept_values,
-            least,
-            extra,
-            space,
-        );
+    let mut least = [0u16; N];
+    let mut extra = [0u8; N];
+    if live {
+        return fill(given, &mut least, &mut extra, space);
     }
-    let mut kept_ids = [0u32; 4096];
-    let mut kept_masks = [0u32; 4096];
-    let mut kept_values = [0u32; 4096];
-    fill_parts(
-        ids,
-        masks,
-        values,
-        &mut kept_ids,
-        &mut kept_masks,
-        &mut kept_values,
-        least,
-        extra,
-        space,
-    )
+    fill_kept::<N>(given, &mut least, &mut extra, space)
 }
 
 // Puts the list written for writes that can be packed at the start of the space, where there is room for it, and answers its words in any
 // case; where the writes are known to be `live`, none of them has mask 0. Room to plan in is zeroed when it is made, so a short run is
 // given little.
-pub fn put_list(ids: &[u32], masks: &[u32], values: &[u32], live: bool, space: &mut [u32]) -> usize
-    requires { PackableRun ids.now masks.now values.now
-        × (live ≡ true → kept (writes ids.now masks.now values.now) ≡ writes ids.now masks.now values.now) }
-    ensures { Puts (written (writes ids.now masks.now values.now)) result space.old
+pub fn put_list(given: Run, live: bool, space: &mut [u32]) -> usize
+    requires { live ≡ true → kept (run_writes given) ≡ run_writes given }
+    ensures { Puts (written (run_writes given.entry)) result space.old
         space.new }
 {
-    if ids.len() <= 128 {
-        let mut least = [0u16; 129];
-        let mut extra = [0u8; 128];
-        if live {
-            return fill(ids, masks, values, &mut least, &mut extra, space);
-        }
-        return fill_kept(ids, masks, values, &mut least, &mut extra, space);
+    if given.ids.len() < 128 {
+        return put_within::<128>(given, live, space);
     }
-    let mut least = [0u16; 4097];
-    let mut extra = [0u8; 4096];
-    if live {
-        return fill(ids, masks, values, &mut least, &mut extra, space);
-    }
-    fill_kept(ids, masks, values, &mut least, &mut extra, space)
+    put_within::<4097>(given, live, space)
 }

@@ -1,17 +1,10 @@
--- Words laid out one group behind another, and a signed word. Assumes nothing.
-use mathlib.Core.Path.{◌≡◌, sym, ap, ◌∙◌}
+-- Words laid out one group behind another. Assumes nothing.
+use mathlib.Core.Path.{◌≡◌, sym, ◌∙◌}
 use mathlib.Core.List.{List, ◌++◌, append_assoc}
-use Prim.Native.Nat.{ℕ, ◌+◌, ◌≤◌}
+use Prim.Native.Nat.{ℕ, ◌+◌}
 use native.Mathlib.Omega.{arith}
 use lib.ListN.{length, take}
-use lib.Seq.{take_all, paste, take-paste, take-length}
-
--- what stands in the first words once all of s is copied to `at`
-pub laid : (old s new : List ℕ) (at n : ℕ) → n ≡ length s → at + length s ≤ length old → new ≡ paste old at s n
-    → take (at + length s) new ≡ take at old ++ s
-laid old s new at n e h f =
-    let p = take-paste old at s (length s) (omega arith) (omega arith) in
-    rw (f, e) (p ∙ ap (λ (r : List ℕ). take at old ++ r) (take-length s))
+use lib.Seq.{take_all}
 
 -- the first group: the words ws behind those that stood there
 pub first : (ws old W new : List ℕ) (at n : ℕ) → take (at + length W) new ≡ take at old ++ W → W ≡ ws → at + length ws ≡ n

@@ -1,3 +1,2 @@
 pub mod Laid
-pub mod Twos
 pub mod Once

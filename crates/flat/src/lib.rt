@@ -16,11 +16,7 @@ use settings::records::{
 fn twos_of(x: i32) -> u32
     ensures { result ≡ twos x }
 {
-    if x < 0 {
-        0xFFFFFFFF - (-1 - x) as u32
-    } else {
-        x as u32
-    }
+    x.cast_unsigned()
 }
 
 fn rasteriser_words(r: Rasteriser) -> [u32; 20]
@@ -184,11 +180,7 @@ fn lay(fields: &mut [u32], at: usize, ws: &[u32])
     requires { at + length ws.now ≤ length fields.old }
     ensures { take (at + length ws.now) fields.new ≡ take at fields.old ++ ws.now }
 {
-    let mut i = 0;
-    while i < ws.len() {
-        fields[at + i] = ws[i];
-        i += 1;
-    }
+    fields[at..at + ws.len()].copy_from_slice(ws);
 }
 
 fn lay_stage(fields: &mut [u32], at: usize, s: Stage)
@@ -200,8 +192,7 @@ fn lay_stage(fields: &mut [u32], at: usize, s: Stage)
 }
 
 // The fields of 40 to DC: the first 100.
-fn lay_to_dc(fields: &mut [u32], rasteriser: Rasteriser, stages: Stages)
-    requires { length fields.old ≡ 204 }
+fn lay_to_dc(fields: &mut [u32; 204], rasteriser: Rasteriser, stages: Stages)
     ensures { take 100 fields.new ≡ words_to_dc rasteriser stages }
 {
     let ws = rasteriser_words(rasteriser);
@@ -213,8 +204,7 @@ fn lay_to_dc(fields: &mut [u32], rasteriser: Rasteriser, stages: Stages)
 }
 
 // Those of E0 to FD: the next 60.
-fn lay_to_fd(fields: &mut [u32], buffer: BufferFog, stages: Stages)
-    requires { length fields.old ≡ 204 }
+fn lay_to_fd(fields: &mut [u32; 204], buffer: BufferFog, stages: Stages)
     ensures { take 160 fields.new ≡ take 100 fields.old ++ words_to_fd buffer stages }
 {
     let fog = fog_words(buffer);
@@ -226,8 +216,7 @@ fn lay_to_fd(fields: &mut [u32], buffer: BufferFog, stages: Stages)
 }
 
 // Those of 100 to 1C5: the last 44.
-fn lay_to_1c5(fields: &mut [u32], framebuffer: Framebuffer, port: LightPort)
-    requires { length fields.old ≡ 204 }
+fn lay_to_1c5(fields: &mut [u32; 204], framebuffer: Framebuffer, port: LightPort)
     ensures { take 204 fields.new ≡ take 160 fields.old ++ words_to_1c5 framebuffer port }
 {
     let blending = blending_words(framebuffer.blending);

@@ -1,4 +1,3 @@
-pub mod Cases
 pub mod Kept
 pub mod Unbuilt
 pub mod Widths

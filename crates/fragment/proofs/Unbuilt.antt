@@ -1,4 +1,4 @@
--- The id of a refusal 14 is of a register that asks for what is not built, and no lower id is. Assumes nothing.
+-- The id of a refusal NotBuilt is of a register that asks for what is not built, and no lower id is. Assumes nothing.
 use mathlib.Core.Path.{◌≡◌, refl, ap}
 use mathlib.Core.Bool.{Bool, true, false, false≢true}
 use Prim.Native.Nat.{ℕ, ◌≤◌}
@@ -7,16 +7,17 @@ use lib.Dec.{eqb, ltb}
 use borrow.Author.Tests.{eqb-true, eqb-false}
 use Rattle.numbers.specs.Pick.{pick}
 use Rattle.settings.specs.declared.records.Settings.{Settings}
+use Rattle.words.specs.declared.Reason.TheVariants.{DepthAboveLargest, NotBuilt}
+use Rattle.words.specs.Reasons.{number_of as reason_number}
 use Rattle.registers.specs.State.{State, sized}
 use Rattle.decode.specs.Decoded.{settings_of, nameless_id, decoded_of, decodable, length_refusal, code_refusal, refusal_of}
-use Rattle.decode.specs.declared.Decoded.TheVariants.{Held}
+use Rattle.std.specs.Prelude.{Ok, Err}
 use Rattle.decode.proofs.Cases.{decodable_held, else_refused}
 use Rattle.combiner.specs.declared.Given.{Given}
 use Rattle.stores.specs.declared.Stored.{Stored}
 use Rattle.fragment.specs.Drawn.{fog_unbuilt, operation_unbuilt, format_unbuilt, unbuilt_at, unbuilt_id, outcome_of, largest}
 use Rattle.fragment.specs.Drawn.{refusal, drawn_with, drawn_from, drawn_of, number_of, values_of}
 use Rattle.fragment.specs.declared.Outcome.{Outcome}
-use Rattle.fragment.specs.declared.Drawn.TheVariants.{Done, Refused}
 
 -- by the tests of E0, 100 and 117: the first that holds, and whether that of i does
 abbrev first : Bool → Bool → Bool → ℕ
@@ -56,23 +57,23 @@ module _ (x : Settings) where
 
 -- an answer's shape: `e` for all built, `a` and `b` for depths above the largest
 by_refusal : (e a b : Bool) (n i : ℕ) (o : Outcome) → eqb n 0 ≡ e
-    → pick e (pick a (refusal 12 0) (pick b (refusal 12 1) (Done o))) (refusal 14 n) ≡ refusal 14 i → (n ≡ i) × (n ≡ 0 → ⊥)
+    → pick e (pick a (refusal DepthAboveLargest 0) (pick b (refusal DepthAboveLargest 1) (Ok o))) (refusal NotBuilt n) ≡ refusal NotBuilt i → (n ≡ i) × (n ≡ 0 → ⊥)
 by_refusal true true b n i o t q = let z = ap number_of q in absurd (omega arith)
 by_refusal true false true n i o t q = let z = ap number_of q in absurd (omega arith)
 by_refusal true false false n i o t q = let z = ap number_of q in absurd (omega arith)
 by_refusal false a b n i o t q = let z = ap values_of q in (cc, eqb-false n 0 t)
 
 -- the refusals of decoding are others
-not_14 : (b : Bool) (i : ℕ) → (pick b (code_refusal i) length_refusal).number ≡ 14 → ⊥
+not_14 : (b : Bool) (i : ℕ) → reason_number (pick b (code_refusal i) length_refusal).reason ≡ 14 → ⊥
 not_14 true i e = omega arith
 not_14 false i e = omega arith
 
-refused_not_14 : (s : State) (i : ℕ) → Refused (refusal_of s) ≡ refusal 14 i → ⊥
+refused_not_14 : (s : State) (i : ℕ) → Err (refusal_of s) ≡ refusal NotBuilt i → ⊥
 unfolding refusal_of
 refused_not_14 s i e = not_14 (sized s) (nameless_id s) (ap number_of e)
 
 module _ (s : State) (g : Given) (incoming : ℕ) (stored : Stored) (i : ℕ) where
-  with_lowest : drawn_with (settings_of s) g incoming stored ≡ refusal 14 i
+  with_lowest : drawn_with (settings_of s) g incoming stored ≡ refusal NotBuilt i
       → (unbuilt_at (settings_of s) i ≡ true) × ((j : ℕ) → unbuilt_at (settings_of s) j ≡ true → i ≤ j)
   unfolding drawn_with
   with_lowest e =
@@ -83,15 +84,15 @@ module _ (s : State) (g : Given) (incoming : ℕ) (stored : Stored) (i : ℕ) wh
       e in
       (rw q.0 at (unbuilt_holds x q.1), λ j h. rw q.0 at (unbuilt_lowest x j h))
 
-  by_decoded : (t : Bool) → decodable s ≡ t → drawn_of s g incoming stored ≡ refusal 14 i
-      → (decoded_of s ≡ Held (settings_of s)) × (unbuilt_at (settings_of s) i ≡ true)
+  by_decoded : (t : Bool) → decodable s ≡ t → drawn_of s g incoming stored ≡ refusal NotBuilt i
+      → (decoded_of s ≡ Ok (settings_of s)) × (unbuilt_at (settings_of s) i ≡ true)
       × ((j : ℕ) → unbuilt_at (settings_of s) j ≡ true → i ≤ j)
   unfolding drawn_from
   by_decoded true d e = let h = decodable_held s d in let w = with_lowest (rw h at e) in (h, w.0, w.1)
   by_decoded false d e = absurd (refused_not_14 s i (rw (else_refused s d) at e))
 
   -- THE REFUSED ID IS THE LOWEST: the state is decoded, its register i asks for what is not built, and none below it does
-  pub drawn_lowest : drawn_of s g incoming stored ≡ refusal 14 i
-      → (decoded_of s ≡ Held (settings_of s)) × (unbuilt_at (settings_of s) i ≡ true)
+  pub drawn_lowest : drawn_of s g incoming stored ≡ refusal NotBuilt i
+      → (decoded_of s ≡ Ok (settings_of s)) × (unbuilt_at (settings_of s) i ≡ true)
       × ((j : ℕ) → unbuilt_at (settings_of s) j ≡ true → i ≤ j)
   drawn_lowest e = by_decoded (decodable s) refl e

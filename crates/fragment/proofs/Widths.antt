@@ -11,10 +11,11 @@ use Rattle.numbers.specs.Pick.{pick}
 use Rattle.settings.specs.declared.records.DepthColourMask.{DepthColourMask}
 use Rattle.settings.specs.declared.records.Framebuffer.{Framebuffer}
 use Rattle.settings.specs.declared.records.Settings.{Settings}
+use Rattle.words.specs.declared.Reason.TheVariants.{DepthAboveLargest, NotBuilt}
 use Rattle.words.specs.declared.Refusal.{Refusal}
 use Rattle.registers.specs.State.{State}
 use Rattle.decode.specs.Decoded.{settings_of, decoded_of, decodable, refusal_of}
-use Rattle.decode.specs.declared.Decoded.TheVariants.{Held}
+use Rattle.std.specs.Prelude.{Ok, Err}
 use Rattle.decode.proofs.Bitwise.{or_true}
 use Rattle.decode.proofs.Cases.{decodable_held, else_refused}
 use Rattle.combiner.specs.Chain.{combiner_of}
@@ -28,10 +29,8 @@ use Rattle.stores.specs.declared.Verdict.TheVariants.{AlphaFails, StencilFails, 
 use Rattle.stores.proofs.Comparisons.{AtWidth}
 use Rattle.stores.proofs.Widths.{enabled_alpha, alpha_width, enabled_depth, depth_width, Opposed}
 use Rattle.stores.proofs.Widths.{alpha_code, alpha_opposed, stencil_code, stencil_opposed, depth_code, depth_opposed}
-use Rattle.fragment.specs.Drawn.{outcome_of, unbuilt_id, largest, refusal, drawn_with, drawn_from, drawn_of}
+use Rattle.fragment.specs.Drawn.{Drawn, outcome_of, unbuilt_id, largest, refusal, drawn_with, drawn_from, drawn_of}
 use Rattle.fragment.specs.declared.Outcome.{Outcome}
-use Rattle.fragment.specs.declared.Drawn.{Drawn}
-use Rattle.fragment.specs.declared.Drawn.TheVariants.{Done, Refused}
 
 -- THE WIDTH OF A DEPTH
 
@@ -58,14 +57,14 @@ within_bits format x h = small_by (eqb format 0) x h
 -- A FRAGMENT THAT ISN'T REFUSED
 
 outcome_in : Outcome → Drawn → Outcome
-outcome_in other (Done o) = o
-outcome_in other (Refused r) = other
+outcome_in other (Ok o) = o
+outcome_in other (Err r) = other
 
-not_refused : (o : Outcome) (r : Refusal) → Refused r ≡ Done o → ⊥
+not_refused : (o : Outcome) (r : Refusal) → Err r ≡ Ok o → ⊥
 not_refused o r e = let z : ◌≡◌ {A = ℕ} 0 1 = cc in omega arith
 
 by_done : (c a b : Bool) (top incoming stored n : ℕ) (o o' : Outcome) → eqb n 0 ≡ c → ltb top incoming ≡ a → ltb top stored ≡ b
-    → pick c (pick a (refusal 12 0) (pick b (refusal 12 1) (Done o'))) (refusal 14 n) ≡ Done o
+    → pick c (pick a (refusal DepthAboveLargest 0) (pick b (refusal DepthAboveLargest 1) (Ok o'))) (refusal NotBuilt n) ≡ Ok o
     → (n ≡ 0) × (incoming ≤ top) × (stored ≤ top) × (o ≡ o')
 unfolding outcome_in
 by_done true true b top incoming stored n o o' r p q e = absurd (not_refused o _ e)
@@ -76,14 +75,14 @@ by_done false a b top incoming stored n o o' r p q e = absurd (not_refused o _ e
 
 -- its state is decoded, and the answer goes by the settings
 module _ (s : State) (g : Given) (incoming : ℕ) (stored : Stored) (o : Outcome) where
-  by_decoded : (t : Bool) → decodable s ≡ t → drawn_of s g incoming stored ≡ Done o
-      → (decoded_of s ≡ Held (settings_of s)) × (drawn_with (settings_of s) g incoming stored ≡ Done o)
+  by_decoded : (t : Bool) → decodable s ≡ t → drawn_of s g incoming stored ≡ Ok o
+      → (decoded_of s ≡ Ok (settings_of s)) × (drawn_with (settings_of s) g incoming stored ≡ Ok o)
   unfolding drawn_from
   by_decoded true d e = let h = decodable_held s d in (h, rw h at e)
   by_decoded false d e = absurd (not_refused o (refusal_of s) (rw (else_refused s d) at e))
 
-  pub drawn_decoded : drawn_of s g incoming stored ≡ Done o
-      → (decoded_of s ≡ Held (settings_of s)) × (drawn_with (settings_of s) g incoming stored ≡ Done o)
+  pub drawn_decoded : drawn_of s g incoming stored ≡ Ok o
+      → (decoded_of s ≡ Ok (settings_of s)) × (drawn_with (settings_of s) g incoming stored ≡ Ok o)
   drawn_decoded e = by_decoded (decodable s) refl e
 
 -- by the depth test: where it passes there is no depth failure, where it fails no pass
@@ -110,7 +109,7 @@ module _ (s : Settings) (g : Given) (incoming : ℕ) (stored : Stored) where
   test = s.framebuffer.tests.depth
 
   -- it is built, and its depths are at most the format's largest
-  pub drawn_tested : (o : Outcome) → drawn_with s g incoming stored ≡ Done o
+  pub drawn_tested : (o : Outcome) → drawn_with s g incoming stored ≡ Ok o
       → (unbuilt_id s ≡ 0) × (incoming ≤ largest s.framebuffer.buffers.depth_format)
       × (stored.depth ≤ largest s.framebuffer.buffers.depth_format) × (o ≡ outcome_of s g incoming stored)
   unfolding drawn_with
@@ -118,7 +117,7 @@ module _ (s : Settings) (g : Given) (incoming : ℕ) (stored : Stored) where
       by_done _ _ _ (largest format) incoming stored.depth (unbuilt_id s) o (outcome_of s g incoming stored) refl refl refl e
 
   -- which are numbers of its width
-  pub drawn_within : (o : Outcome) → drawn_with s g incoming stored ≡ Done o
+  pub drawn_within : (o : Outcome) → drawn_with s g incoming stored ≡ Ok o
       → (incoming < 2 ^ depth_bits s.framebuffer.buffers.depth_format)
       × (stored.depth < 2 ^ depth_bits s.framebuffer.buffers.depth_format)
   drawn_within o e =
@@ -134,7 +133,7 @@ module _ (s : Settings) (g : Given) (incoming : ℕ) (stored : Stored) where
       alpha_width alpha_of (omega (arith, b.alpha))
 
   -- the depth test of a fragment that isn't refused, at 16 bits or 24
-  pub drawn_depth : (o : Outcome) → drawn_with s g incoming stored ≡ Done o
+  pub drawn_depth : (o : Outcome) → drawn_with s g incoming stored ≡ Ok o
       → AtWidth (depth_bits s.framebuffer.buffers.depth_format)
       (λ code depth. depth_passes (enabled_depth s.framebuffer.tests.depth code) incoming depth)
   drawn_depth o e = depth_width (depth_bits format) s.framebuffer.tests.depth incoming (drawn_within o e).0
@@ -166,7 +165,7 @@ module _ (s : Settings) (g : Given) (incoming : ℕ) (stored : Stored) where
 
   -- DEPTH AGAINST THE ENDS OF ITS WIDTH, as a cleared buffer holds them
 
-  module _ (o : Outcome) (e : drawn_with s g incoming stored ≡ Done o) where
+  module _ (o : Outcome) (e : drawn_with s g incoming stored ≡ Ok o) where
     verdict_of_law : o.verdict ≡ (outcome_of s g incoming stored).verdict
     verdict_of_law = ap (λ (x : Outcome). x.verdict) (drawn_tested o e).3
 

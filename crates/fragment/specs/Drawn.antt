@@ -1,16 +1,14 @@
 -- What `draw` answers: the verdict with what is then stored, or a refusal: 6, 13, 14, 12.
-use Rattle.std.specs.Prelude.{Bool, false, not, ◌&&◌, ◌||◌, List, [], ◌∷◌, ℕ, eqb, ltb}
+use Rattle.std.specs.Prelude.{Bool, false, not, ◌&&◌, ◌||◌, List, [], ◌∷◌, ℕ, eqb, ltb, Result, Ok, Err}
 use Rattle.numbers.specs.Pick.{pick}
 use Rattle.registers.specs.State.{State}
-use Rattle.decode.specs.Decoded.{decoded_of}
+use Rattle.decode.specs.Decoded.{Decoded, decoded_of}
 use Rattle.settings.specs.declared.records.Colour.{Colour}
 use Rattle.settings.specs.declared.records.UpdateBuffer.{UpdateBuffer}
 use Rattle.settings.specs.declared.records.ColourOperation.{ColourOperation}
 use Rattle.settings.specs.declared.records.ColourFormat.{ColourFormat}
 use Rattle.settings.specs.declared.records.Framebuffer.{Framebuffer}
 use Rattle.settings.specs.declared.records.Settings.{Settings}
-use Rattle.decode.specs.declared.Decoded.{Decoded}
-use Rattle.decode.specs.declared.Decoded.TheVariants as decoded
 use Rattle.combiner.specs.declared.Given.{Given}
 use Rattle.combiner.specs.Chain.{combiner_of}
 use Rattle.stores.specs.Tests.{verdict_number}
@@ -18,8 +16,14 @@ use Rattle.stores.specs.Stores.{judged_of, colour_after}
 use Rattle.stores.specs.declared.Stored.{Stored}
 use Rattle.stores.specs.declared.Judged.{Judged}
 use Rattle.fragment.specs.declared.Outcome.{Outcome}
-use Rattle.fragment.specs.declared.Drawn.{Drawn}
-use Rattle.fragment.specs.declared.Drawn.TheVariants.{Done, Refused}
+use Rattle.words.specs.Reasons.{number_of as reason_number}
+use Rattle.words.specs.declared.Reason.{Reason}
+use Rattle.words.specs.declared.Reason.TheVariants.{DepthAboveLargest, NotBuilt}
+use Rattle.words.specs.declared.Refusal.{Refusal}
+
+-- the verdict and what is then stored, or the refusal
+abbrev pub Drawn : Type 0
+Drawn = Result Outcome Refusal
 
 -- THE PARTS
 
@@ -70,8 +74,15 @@ unbuilt_id s =
 unfoldable pub largest : ℕ → ℕ
 largest format = pick (eqb format 0) 65535 16777215
 
-abbrev pub refusal : ℕ → ℕ → Drawn
-refusal n p = Refused (record { number = n; place = p })
+-- 14 at a register's id, and 12 at a depth's place
+abbrev pub not_built : ℕ → Refusal
+not_built i = record { reason = NotBuilt; place = i }
+
+abbrev pub too_deep : ℕ → Refusal
+too_deep p = record { reason = DepthAboveLargest; place = p }
+
+abbrev pub refusal : Reason → ℕ → Drawn
+refusal r p = Err (record { reason = r; place = p })
 
 -- THE ANSWER
 
@@ -79,13 +90,13 @@ unfoldable pub drawn_with : Settings → Given → ℕ → Stored → Drawn
 drawn_with s g incoming stored =
     let top = largest s.framebuffer.buffers.depth_format in
     pick (eqb (unbuilt_id s) 0)
-    (pick (ltb top incoming) (refusal 12 0)
-    (pick (ltb top stored.depth) (refusal 12 1) (Done (outcome_of s g incoming stored))))
-    (refusal 14 (unbuilt_id s))
+    (pick (ltb top incoming) (refusal DepthAboveLargest 0)
+    (pick (ltb top stored.depth) (refusal DepthAboveLargest 1) (Ok (outcome_of s g incoming stored))))
+    (refusal NotBuilt (unbuilt_id s))
 
 unfoldable pub drawn_from : Decoded → Given → ℕ → Stored → Drawn
-drawn_from (decoded.Refused r) g incoming stored = Refused r
-drawn_from (decoded.Held s) g incoming stored = drawn_with s g incoming stored
+drawn_from (Err r) g incoming stored = Err r
+drawn_from (Ok s) g incoming stored = drawn_with s g incoming stored
 
 -- of a state, the given colours, the incoming depth, and what is stored
 abbrev pub drawn_of : State → Given → ℕ → Stored → Drawn
@@ -96,15 +107,15 @@ drawn_of s g incoming stored = drawn_from (decoded_of s) g incoming stored
 -- the number and values for each case: 0, the verdict's number (the C paper's), and the colour, stencil and depth that are then stored; a
 -- refusal's number and its place
 abbrev pub number_of : Drawn → ℕ
-number_of (Done o) = 0
-number_of (Refused r) = r.number
+number_of (Ok o) = 0
+number_of (Err r) = reason_number r.reason
 
 abbrev pub colour_values : Colour → List ℕ → List ℕ
 colour_values c rest = c.red ∷ c.green ∷ c.blue ∷ c.alpha ∷ rest
 
 abbrev pub values_of : Drawn → List ℕ
-values_of (Done o) = verdict_number o.verdict ∷ colour_values o.stored.colour (o.stored.stencil ∷ o.stored.depth ∷ [])
-values_of (Refused r) = r.place ∷ []
+values_of (Ok o) = verdict_number o.verdict ∷ colour_values o.stored.colour (o.stored.stencil ∷ o.stored.depth ∷ [])
+values_of (Err r) = r.place ∷ []
 
 -- both as one list, the number first
 abbrev pub told : Drawn → List ℕ

@@ -2,32 +2,26 @@
 // once every code has a name, each function below takes from the cells the registers that it uses.
 #![tactic(auto)]
 
-ghost use Rattle.std.specs.Prelude.{◌≡◌, length};
+ghost use Rattle.std.specs.Prelude.{◌≡◌, ◌≢◌, ◌<◌, ◌≤◌, MatchResult};
 ghost use Rattle.registers.specs.State.{st};
 ghost use Rattle.settings.specs.Ranges.{bits, in_cells};
 ghost use Rattle.settings.specs.Framebuffer.{operation_in, format_in};
 ghost use Rattle.settings.specs.Settings.{settings_in};
-ghost use Rattle.fragment.specs.Drawn.{outcome_of, operation_unbuilt, format_unbuilt, unbuilt_id, largest, drawn_with, drawn_of, told};
+ghost use Rattle.fragment.specs.Drawn.{outcome_of, operation_unbuilt, format_unbuilt, unbuilt_id, largest, not_built, too_deep, drawn_with, drawn_of, told};
 
 use combiner::Given;
 use stores::{Stored, Verdict};
-use words::Refusal;
+use words::{Reason, Refusal};
 
-#[derive(Clone, Copy)]
+#[derive(Clone, Copy, Debug, PartialEq, Eq)]
 pub struct Outcome {
     pub verdict: Verdict,
     pub stored: Stored,
 }
 
-#[derive(Clone, Copy)]
-pub enum Drawn {
-    Done(Outcome),
-    Refused(Refusal),
-}
-
 // The combiner's result, judged and stored.
-fn find_outcome(cells: &[u32], g: Given, incoming: u32, stored: Stored) -> Outcome
-    requires { length cells.now ≡ 768 }
+#[tactic(auto, unfolding(crate::specs::Drawn::outcome_of, settings::specs::Settings::settings_in))]
+fn find_outcome(cells: &[u32; 768], g: Given, incoming: u32, stored: Stored) -> Outcome
     ensures { result ≡ outcome_of (settings_in (in_cells cells.now)) g incoming stored }
 {
     let old = stored.colour;
@@ -58,60 +52,79 @@ fn format_unbuilt(x: u32) -> bool
     !((x % 4 == 2) & ((x >> 16) % 8 == 0))
 }
 
-// The lowest id that asks for what is not built, 0 for none.
-fn unbuilt_id(cells: &[u32]) -> usize
-    requires { length cells.now ≡ 768 }
-    ensures { result ≡ unbuilt_id (settings_in (in_cells cells.now)) }
+fn not_built(id: usize) -> Refusal
+    ensures { result ≡ not_built id }
+{
+    Refusal {
+        reason: Reason::NotBuilt,
+        place: id,
+    }
+}
+
+// Refused at the lowest id that asks for what is not built.
+#[tactic(auto, unfolding(crate::specs::Drawn::unbuilt_id, settings::specs::Settings::settings_in))]
+fn check_built(cells: &[u32; 768]) -> Result<(), Refusal>
+    ensures { MatchResult result
+        (λ _. unbuilt_id (settings_in (in_cells cells.now)) ≡ 0)
+        (λ why. (why ≡ not_built (unbuilt_id (settings_in (in_cells cells.now))))
+        × (unbuilt_id (settings_in (in_cells cells.now)) ≢ 0)) }
 {
     let update = cells[0xE0];
     let operation = cells[0x100];
     let format = cells[0x117];
     if update % 8 != 0 {
-        return 0xE0;
+        return Err(not_built(0xE0));
     }
     if operation_unbuilt(operation) {
-        return 0x100;
+        return Err(not_built(0x100));
     }
-    if format_unbuilt(format) { 0x117 } else { 0 }
+    if format_unbuilt(format) {
+        return Err(not_built(0x117));
+    }
+    Ok(())
 }
 
 // format is the word of 116.
+#[tactic(auto, unfolding(crate::specs::Drawn::largest))]
 fn largest_depth(format: u32) -> u32
     ensures { result ≡ largest (bits format 0 1) }
 {
     if format % 4 == 0 { 65535 } else { 16777215 }
 }
 
-// Of cells whose length is a state's and whose codes all have a name.
-fn draw_with(cells: &[u32], g: Given, incoming: u32, stored: Stored) -> Drawn
-    requires { length cells.now ≡ 768 }
+// Refused at the place where the depth is above the largest.
+fn check_depth(depth: u32, top: u32, place: usize) -> Result<(), Refusal>
+    ensures { MatchResult result (λ _. depth ≤ top) (λ why. (why ≡ too_deep place) × (top < depth)) }
+{
+    if top < depth {
+        return Err(Refusal {
+            reason: Reason::DepthAboveLargest,
+            place,
+        });
+    }
+    Ok(())
+}
+
+// Of cells whose codes all have a name.
+#[tactic(auto, unfolding(crate::specs::Drawn::drawn_with, settings::specs::Settings::settings_in))]
+fn draw_with(
+    cells: &[u32; 768],
+    g: Given,
+    incoming: u32,
+    stored: Stored,
+) -> Result<Outcome, Refusal>
     ensures { result ≡ drawn_with (settings_in (in_cells cells.now)) g incoming stored }
 {
-    let id = unbuilt_id(cells);
-    if id != 0 {
-        return Drawn::Refused(Refusal {
-            number: words::NOT_BUILT,
-            place: id,
-        });
-    }
+    check_built(cells)?;
     let top = largest_depth(cells[0x116]);
-    if top < incoming {
-        return Drawn::Refused(Refusal {
-            number: words::DEPTH_ABOVE_LARGEST,
-            place: 0,
-        });
-    }
-    if top < stored.depth {
-        return Drawn::Refused(Refusal {
-            number: words::DEPTH_ABOVE_LARGEST,
-            place: 1,
-        });
-    }
-    Drawn::Done(find_outcome(cells, g, incoming, stored))
+    check_depth(incoming, top, 0)?;
+    check_depth(stored.depth, top, 1)?;
+    Ok(find_outcome(cells, g, incoming, stored))
 }
 
 // What becomes of a fragment: the verdict, and the colour, stencil and depth that are then stored; or refused with 6 at 0, 13 or 14 at
 // the lowest id, or 12 at 0 for the incoming depth, 1 for the stored. Its numbers are those of `told`.
+#[tactic(auto, using(decode::proofs::Cases::decodable_held, decode::proofs::Cases::else_refused), unfolding(crate::specs::Drawn::drawn_from))]
 pub fn draw(
     cells: &[u32],
     fog: &[u32],
@@ -119,13 +132,10 @@ pub fn draw(
     given: Given,
     incoming: u32,
     stored: Stored,
-) -> Drawn
+) -> Result<Outcome, Refusal>
     ensures answer { result ≡ drawn_of (st cells.now fog.now light.now) given incoming stored }
     ensures numbers { told result ≡ told (drawn_of (st cells.now fog.now light.now) given incoming stored) }
 {
-    if decode::is_decodable(cells, fog, light) {
-        draw_with(cells, given, incoming, stored)
-    } else {
-        Drawn::Refused(decode::refusal_of(cells, fog, light))
-    }
+    let cells = decode::decodable_cells(cells, fog, light)?;
+    draw_with(cells, given, incoming, stored)
 }

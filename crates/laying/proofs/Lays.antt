@@ -1,16 +1,18 @@
 -- The words of a command from the three buffers, and one command after another to the whole list. Assumes nothing.
 use mathlib.Core.Path.{◌≡◌, refl, sym, ap, ◌∙◌}
 use mathlib.Core.Bool.{Bool, true, false}
-use mathlib.Core.List.{List, ◌∷◌, ◌++◌}
+use mathlib.Core.List.{List, [], ◌∷◌, ◌++◌}
 use Prim.Native.Nat.{ℕ, zero, suc, ◌+◌, ◌-◌, ◌%◌, ◌≤◌, ◌<◌}
 use native.Mathlib.Decide.{dec_lt}
 use native.Mathlib.Omega.{arith}
 use lib.Dec.{eqb}
-use lib.ListN.{length, get_or, take, drop, set, length-append, length-drop}
+use lib.ListN.{length, get_or, take, drop, set, replicate, length-append, length-drop, length-take}
 use lib.Seq.{take_all, drop-drop, get_or-drop, paste, paste-zero}
 use borrow.Author.Tests.{lt-ltb, le-ltb, eqb-true, eqb-false}
 use Rattle.numbers.specs.Pick.{pick}
-use Rattle.numbers.proofs.Copy.{next_word, copy_more}
+use Rattle.std.proofs.lemmas.List.{take-append-le}
+use Rattle.std.proofs.lemmas.List.Edits.{paste-paste}
+use Rattle.numbers.proofs.Copy.{next_word}
 use Rattle.numbers.proofs.Room.{next_part, next_rest}
 use Rattle.words.specs.Writes.{Write, writing}
 use Rattle.cuts.specs.Cuts.{words, first}
@@ -23,11 +25,6 @@ use Rattle.runs.proofs.RoundTrip.{plain_drop}
 use Rattle.runs.proofs.Shortest.{plain}
 use Rattle.runs.proofs.Writes.{writes_length, writes_at, values_from}
 use Rattle.laying.specs.Laying.{step_at, after_short}
-
-pub copied : (old s start new : List ℕ) (at m n : ℕ) → start ≡ paste old at s 2 → new ≡ paste start at s (m + 1)
-    → m + 1 ≡ n → 2 ≤ n
-    → at + n ≤ length old → n ≤ length s → new ≡ paste old at s n
-copied old s start new at m n e f g h q r = f ∙ rw (e, g) (copy_more old s at 2 n q (omega arith) h)
 
 -- THE WORDS OF THE COMMAND of k writes from i on
 module _ (is ms vs : List ℕ) (G : PackableRun is ms vs) (i k : ℕ) (F : OneCommand (drop i (writes is ms vs)) k) where
@@ -125,6 +122,28 @@ module _ (is ms vs : List ℕ) (G : PackableRun is ms vs) (i k : ℕ) (F : OneCo
           (rw d (word_extra 2 (omega arith) (omega arith)))
       go (suc (suc (suc (suc n)))) z = absurd (omega arith)
 
+  extra_length : length (take (k - 1) (drop (i + 1) vs)) ≡ k - 1
+  extra_length = length-take (k - 1) (drop (i + 1) vs) ∙ omega (arith, length-drop (i + 1) vs, inside, G.values, F.low)
+
+  -- A LONGER ONE, from its first two words, by a copy of its extra parameters
+  words_copied : (old start : List ℕ) (at : ℕ) → at + words k ≤ length old → start ≡ paste old at (command k (drop i ws)) 2
+      → paste start (at + 2) (take (k - 1) (drop (i + 1) vs)) (k - 1) ≡ paste old at (command k (drop i ws)) (k + 1)
+  words_copied old start at r e =
+      let v = get_or vs i 0 in
+      let h = header (get_or is i 0) (get_or ms i 0) k (step_for k (here i ∷ drop (i + 1) ws)) in
+      let xs = take (k - 1) (drop (i + 1) vs) in
+      let n = extra_length in
+      let z : k + 1 ≡ suc (suc (k - 1)) = omega (arith, F.low) in
+      let front = take-append-le (k - 1) xs (replicate (suc (suc (k - 1)) % 2) 0) (omega (arith, extra_length)) in
+      let q : 2 + (k - 1) ≡ suc (suc (k - 1)) = omega arith in
+      rw (e, at_i, values_from is ms vs (i + 1) G.masks G.values)
+      (paste-paste old at (v ∷ h ∷ []) xs 2 (k - 1) refl (sym n) (omega arith) ∙ rw (q, z, front))
+
+  pub part_copied : (old start new : List ℕ) (at : ℕ) → at + words k ≤ length old → start ≡ paste old at (command k (drop i ws)) 2
+      → new ≡ paste start (at + 2) (take (k - 1) (drop (i + 1) vs)) (length (take (k - 1) (drop (i + 1) vs)))
+      → new ≡ paste old at (command k (drop i ws)) (k + 1)
+  part_copied old start new at r e q = q ∙ rw extra_length (words_copied old start at r e)
+
 -- ONE COMMAND AFTER ANOTHER
 
 -- the commands of the writes before i stand in the first `at` words; what is left to lay out is the packed list of the writes from i on
@@ -133,9 +152,6 @@ pub record Laid (ws : List Write) (old : List ℕ) (i at : ℕ) (new : List ℕ)
   pub stands : new ≡ take at (packed ws) ++ drop at old
   pub rest : drop at (packed ws) ≡ packed (drop i ws)
   pub fits : at + length (packed (drop i ws)) ≡ length (packed ws)
-
-pub laid_none : (ws : List Write) (old : List ℕ) → Laid ws old 0 0 old
-laid_none ws old = record { within = omega arith; stands = refl; rest = refl; fits = omega arith }
 
 -- one command more
 module _ (ws : List Write) (old : List ℕ) (i k at : ℕ) (new : List ℕ) (h : i < length ws) (e : k ≡ first span (drop i ws))

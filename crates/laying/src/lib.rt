@@ -6,15 +6,12 @@ ghost use Rattle.std.specs.Prelude.{◌≡◌, ◌++◌, ◌+◌, ◌≤◌, ◌
 ghost use Rattle.std.proofs.Math.Seq.{paste};
 ghost use Rattle.numbers.specs.Pick.{pick};
 ghost use Rattle.cuts.specs.Cuts.{words};
-ghost use Rattle.runs.specs.PackedList.{writes, PackableRun, header, command, OneCommand, packed};
+ghost use Rattle.runs.specs.PackedList.{header, command, OneCommand, packed};
+ghost use Rattle.planning.specs.RunWrites.{run_writes};
 ghost use Rattle.planning.specs.Plan.{Sizes};
 ghost use Rattle.laying.specs.Laying.{step_at, after_short};
 
-fn wide(x: u8) -> usize
-    ensures { (result ≡ x) × (result < 256) }
-{
-    x as usize
-}
+use planning::Run;
 
 // A command's header.
 fn header_of(id: u32, mask: u32, k: usize, step: u32) -> u32
@@ -60,52 +57,49 @@ fn put_short(values: &[u32], i: usize, k: usize, space: &mut [u32], at: usize)
     space[at + 3] = third(k, values[i + k - 1]);
 }
 
+// Copies words into the space at `at`. It stays a call of its own: within `put_command` it would cost the many short commands, which copy
+// nothing.
+#[inline(never)]
+fn copy_in(words: &[u32], space: &mut [u32], at: usize)
+    requires { at + length words.now ≤ length space.old }
+    ensures { space.new ≡ paste space.old at words.now (length words.now) }
+{
+    space[at..at + words.len()].copy_from_slice(words);
+}
+
 // Writes the command of k writes from i on into the space at `at`.
-fn put_command(
-    ids: &[u32],
-    masks: &[u32],
-    values: &[u32],
-    i: usize,
-    k: usize,
-    space: &mut [u32],
-    at: usize,
-)
-    requires { PackableRun ids.now masks.now values.now × OneCommand (drop i (writes ids.now masks.now values.now)) k
-        × (i + k ≤ length ids.now) × (at + words k ≤ length space.old) }
+fn put_command(given: Run, i: usize, k: usize, space: &mut [u32], at: usize)
+    requires { OneCommand (drop i (run_writes given)) k
+        × (i + k ≤ length given.ids.now) × (at + words k ≤ length space.old) }
     ensures { space.new
         ≡ paste space.old at
-        (command k (drop i (writes ids.now masks.now values.now))) (words k) }
+        (command k (drop i (run_writes given.entry))) (words k) }
 {
-    space[at] = values[i];
-    space[at + 1] = header_of(ids[i], masks[i], k, step_at(ids, i, k));
+    space[at] = given.values[i];
+    space[at + 1] = header_of(given.ids[i], given.masks[i], k, step_at(given.ids, i, k));
     if k < 4 {
-        put_short(values, i, k, space, at);
+        put_short(given.values, i, k, space, at);
         return;
     }
-    let mut m = 1;
-    while m < k {
-        space[at + 1 + m] = values[i + m];
-        m += 1;
-    }
+    copy_in(&given.values[i + 1..i + k], space, at + 2);
     if k % 2 == 0 {
         space[at + 1 + k] = 0;
     }
 }
 
 // Writes the packed list to the start of the space, by the sizes that were planned.
-pub fn lay_out(ids: &[u32], masks: &[u32], values: &[u32], extra: &[u8], space: &mut [u32])
-    requires { PackableRun ids.now masks.now values.now × (length ids.now ≤ length extra.now)
-        × Sizes (writes ids.now masks.now values.now) extra.now
-        × (length (packed (writes ids.now masks.now values.now)) ≤ length space.old) }
-    ensures { space.new
-        ≡ packed (writes ids.now masks.now values.now)
-        ++ drop (length (packed (writes ids.now masks.now values.now))) space.old }
+pub fn lay_out(given: Run, extra: &[u8], space: &mut [u32])
+    requires { (length given.ids.now ≤ length extra.now) × Sizes (run_writes given) extra.now
+        × (length (packed (run_writes given)) ≤ length space.old) }
+    ensures { let l = packed (run_writes given.entry) in
+        space.new ≡ l ++ drop (length l) space.old }
 {
     let mut i = 0;
     let mut at = 0;
-    while i < ids.len() {
-        let k = wide(extra[i]) + 1;
-        put_command(ids, masks, values, i, k, space, at);
+    // Each turn goes on by a command's size, which is read there: no range, and no iterator of the library, steps so.
+    while i < given.ids.len() {
+        let k = usize::from(extra[i]) + 1;
+        put_command(given, i, k, space, at);
         at += planning::words_of(k);
         i += k;
     }

@@ -6,7 +6,7 @@ ghost use Rattle.numbers.specs.Ranges.{in_cells, negated};
 ghost use Rattle.lights.specs.Lights.{light_colour_in, vector_in, spot_in, config_in, attenuation_in, light_in, lights_in};
 
 // +0 to +3: 000 gives each channel eight bits, and marks the two above them UNKNOWN.
-#[derive(Clone, Copy)]
+#[derive(Clone, Copy, Debug, PartialEq, Eq)]
 pub struct LightColour {
     pub blue: u8,
     pub blue_unknown: u32,
@@ -17,7 +17,7 @@ pub struct LightColour {
 }
 
 // +4, +5: floats of 16 bits, as their bits.
-#[derive(Clone, Copy)]
+#[derive(Clone, Copy, Debug, PartialEq, Eq)]
 pub struct LightVector {
     pub x: u32,
     pub y: u32,
@@ -25,7 +25,7 @@ pub struct LightVector {
 }
 
 // +6, +7: signed, and stored negated: -4,095..4,096, in units of 1/2048.
-#[derive(Clone, Copy)]
+#[derive(Clone, Copy, Debug, PartialEq, Eq)]
 pub struct SpotDirection {
     pub x: i32,
     pub y: i32,
@@ -33,7 +33,7 @@ pub struct SpotDirection {
 }
 
 // +9.
-#[derive(Clone, Copy)]
+#[derive(Clone, Copy, Debug, PartialEq, Eq)]
 pub struct LightConfig {
     pub light_type: u32,
     pub two_side_diffuse: u32,
@@ -42,13 +42,13 @@ pub struct LightConfig {
 }
 
 // +A, +B: floats of 20 bits, as their bits.
-#[derive(Clone, Copy)]
+#[derive(Clone, Copy, Debug, PartialEq, Eq)]
 pub struct Attenuation {
     pub bias: u32,
     pub scale: u32,
 }
 
-#[derive(Clone, Copy)]
+#[derive(Clone, Copy, Debug, PartialEq, Eq)]
 pub struct Light {
     pub specular0: LightColour,
     pub specular1: LightColour,
@@ -61,7 +61,7 @@ pub struct Light {
 }
 
 // From 140, 150, .., 1B0 on.
-#[derive(Clone, Copy)]
+#[derive(Clone, Copy, Debug, PartialEq, Eq)]
 pub struct Lights {
     pub light0: Light,
     pub light1: Light,
@@ -74,7 +74,7 @@ pub struct Lights {
 }
 
 // The colour in register i.
-fn read_colour(cells: &[u32], i: usize) -> LightColour
+fn read_colour(cells: &[u32; 768], i: usize) -> LightColour
     requires { (length cells.now ≡ 768) × (i < 768) }
     ensures { result ≡ light_colour_in (in_cells cells.now i) }
 {
@@ -90,8 +90,8 @@ fn read_colour(cells: &[u32], i: usize) -> LightColour
 }
 
 // The vector of the light whose registers begin at b.
-fn read_vector(cells: &[u32], b: usize) -> LightVector
-    requires { (length cells.now ≡ 768) × (b < 512) }
+fn read_vector(cells: &[u32; 768], b: usize) -> LightVector
+    requires { b < 512 }
     ensures { result ≡ vector_in (in_cells cells.now) b }
 {
     let low = cells[b + 4];
@@ -111,8 +111,8 @@ fn negated_thirteen(x: u32) -> i32
     4096 - ((x + 4096) % 8192) as i32
 }
 
-fn read_spot(cells: &[u32], b: usize) -> SpotDirection
-    requires { (length cells.now ≡ 768) × (b < 512) }
+fn read_spot(cells: &[u32; 768], b: usize) -> SpotDirection
+    requires { b < 512 }
     ensures { result ≡ spot_in (in_cells cells.now) b }
 {
     let low = cells[b + 6];
@@ -124,8 +124,8 @@ fn read_spot(cells: &[u32], b: usize) -> SpotDirection
     }
 }
 
-fn read_config(cells: &[u32], b: usize) -> LightConfig
-    requires { (length cells.now ≡ 768) × (b < 512) }
+fn read_config(cells: &[u32; 768], b: usize) -> LightConfig
+    requires { b < 512 }
     ensures { result ≡ config_in (in_cells cells.now) b }
 {
     let x = cells[b + 9];
@@ -137,8 +137,8 @@ fn read_config(cells: &[u32], b: usize) -> LightConfig
     }
 }
 
-fn read_attenuation(cells: &[u32], b: usize) -> Attenuation
-    requires { (length cells.now ≡ 768) × (b < 512) }
+fn read_attenuation(cells: &[u32; 768], b: usize) -> Attenuation
+    requires { b < 512 }
     ensures { result ≡ attenuation_in (in_cells cells.now) b }
 {
     Attenuation {
@@ -147,8 +147,8 @@ fn read_attenuation(cells: &[u32], b: usize) -> Attenuation
     }
 }
 
-fn read_light(cells: &[u32], b: usize) -> Light
-    requires { (length cells.now ≡ 768) × (b < 512) }
+fn read_light(cells: &[u32; 768], b: usize) -> Light
+    requires { b < 512 }
     ensures { result ≡ light_in (in_cells cells.now) b }
 {
     Light {
@@ -163,9 +163,8 @@ fn read_light(cells: &[u32], b: usize) -> Light
     }
 }
 
-// All of them. For `settings` alone, which is lent cells of a state's length.
-pub fn read_lights(cells: &[u32]) -> Lights
-    requires { length cells.now ≡ 768 }
+// All of them. For `settings` alone.
+pub fn read_lights(cells: &[u32; 768]) -> Lights
     ensures { result ≡ lights_in (in_cells cells.now) }
 {
     Lights {

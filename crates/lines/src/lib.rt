@@ -7,19 +7,17 @@ ghost use Rattle.reader.specs.Read.{told};
 ghost use Rattle.lines.specs.Text.{decimal, over, Put};
 ghost use Rattle.lines.specs.Lines.{words_in, line_for, line_of};
 
-use reader::ListVerdict;
+use itoa::Buffer;
+use words::Refusal;
 
 // Puts a text at `at`, and answers the place after it.
 fn put_text(line: &mut [u8], at: usize, text: &[u8]) -> usize
     requires { at + length text.now ≤ length line.old }
     ensures { (result ≡ at + length text.now) × (line.new ≡ over line.old at text.now) }
 {
-    let mut i = 0;
-    while i < text.len() {
-        line[at + i] = text[i];
-        i += 1;
-    }
-    at + i
+    let end = at + text.len();
+    line[at..end].copy_from_slice(text);
+    end
 }
 
 // Puts a number in decimal at `at`, and answers the place after it.
@@ -27,15 +25,8 @@ fn put_decimal(line: &mut [u8], at: usize, n: usize) -> usize
     requires { at + length (decimal n) ≤ length line.old }
     ensures { (result ≡ at + length (decimal n)) × (line.new ≡ over line.old at (decimal n)) }
 {
-    let last = b'0' + (n % 10) as u8;
-    let one_digit = n < 10;
-    if one_digit {
-        line[at] = last;
-        return at + 1;
-    }
-    let end = put_decimal(line, at, n / 10);
-    line[end] = last;
-    end + 1
+    let mut digits = Buffer::new();
+    put_text(line, at, digits.format(n).as_bytes())
 }
 
 // The line for an accepted list.
@@ -61,20 +52,13 @@ fn put_refused(line: &mut [u8], number: u32, place: usize) -> usize
 }
 
 // The line that gives a verdict, at the start of the lent space; answers how many bytes it has. The space past it keeps its contents.
-pub fn line_for(verdict: ListVerdict, line: &mut [u8; 64]) -> usize
+pub fn line_for(verdict: Result<usize, Refusal>, line: &mut [u8; 64]) -> usize
     ensures { Put line.old (line_for (told verdict)) result line.new }
 {
     match verdict {
-        ListVerdict::Accepted(n) => put_ok(line, n),
-        ListVerdict::Refused(r) => put_refused(line, r.number, r.place),
+        Ok(n) => put_ok(line, n),
+        Err(r) => put_refused(line, u32::from(r.reason), r.place),
     }
-}
-
-// A word of four bytes, the lowest first.
-fn word_of(a: u8, b: u8, c: u8, d: u8) -> u32
-    ensures { result ≡ a + b * 0x100 + c * 0x10000 + d * 0x1000000 }
-{
-    a as u32 + b as u32 * 0x100 + c as u32 * 0x10000 + d as u32 * 0x1000000
 }
 
 // The words in the bytes, at the start of the lent space; answers how many there are.
@@ -83,11 +67,9 @@ fn put_words(bytes: &[u8], words: &mut [u32]) -> usize
     ensures { (result ≡ length bytes.now / 4) × (take result words.new ≡ words_in bytes.now) }
 {
     let n = bytes.len() / 4;
-    let mut i = 0;
-    while i < n {
+    for i in 0..n {
         let at = 4 * i;
-        words[i] = word_of(bytes[at], bytes[at + 1], bytes[at + 2], bytes[at + 3]);
-        i += 1;
+        words[i] = u32::from_le_bytes([bytes[at], bytes[at + 1], bytes[at + 2], bytes[at + 3]]);
     }
     n
 }

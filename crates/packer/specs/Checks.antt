@@ -1,12 +1,12 @@
 -- What is wrong with the writes given: 7, 8, then each write in order for 9, 3, 4, 5 with its index.
-use Rattle.std.specs.Prelude.{ℕ, ◌+◌, List, [], ◌∷◌, length, nat_le, nat_lt}
+use Rattle.std.specs.Prelude.{ℕ, ◌+◌, List, [], ◌∷◌, length, nat_le, nat_lt, Result, Ok, Err}
 use Rattle.numbers.specs.Pick.{pick}
 use Rattle.numbers.specs.Answer.{Answer, answered, refused, unless_fault}
 use Rattle.numbers.specs.Room.{level}
 use Rattle.words.specs.Writes.{Write, fault_of}
 use Rattle.runs.specs.PackedList.{writes}
-use Rattle.packer.specs.declared.Checked.{Checked}
-use Rattle.packer.specs.declared.Checked.TheVariants.{Fine, Refused}
+use Rattle.words.specs.Reasons.{number_of}
+use Rattle.words.specs.declared.Refusal.{Refusal}
 
 -- the number of a write's refusal, 0 for none: 9 mask above 15, then the fault that the reader finds
 abbrev pub wrong : ℕ → ℕ → ℕ
@@ -25,6 +25,6 @@ check_answer is ms vs =
     (refused 7 0)
 
 -- the document's number and values for each case
-abbrev pub found : Checked → Answer
-found Fine = answered 0
-found (Refused r) = refused r.number r.place
+abbrev pub found : Result (Unit {0}) Refusal → Answer
+found (Ok fine) = answered 0
+found (Err r) = refused (number_of r.reason) r.place

@@ -1,17 +1,11 @@
 -- What packing answers, and what it leaves in the space: the refusals of the writes, then 10 where the space is shorter than the list
 -- written, its pair included. Writes of mask 0 are checked, numbered and counted for 8 like any others; the list leaves them out.
 use Rattle.std.specs.Prelude.{ℕ, List, length}
-use Rattle.numbers.specs.Answer.{Answer, answered, refused}
+use Rattle.numbers.specs.Answer.{Answer}
 use Rattle.numbers.specs.Room.{and_then, if_room, space_after}
 use Rattle.runs.specs.PackedList.{writes, written}
 use Rattle.packer.specs.Checks.{check_answer}
-use Rattle.packer.specs.declared.Packed.{Packed}
-use Rattle.packer.specs.declared.Packed.TheVariants.{Words, Refused}
-
--- the document's number and values for each case
-abbrev pub told : Packed → Answer
-told (Words n) = answered n
-told (Refused r) = refused r.number r.place
+pub use Rattle.words.specs.Reasons.{told}
 
 -- the words of the list where there is room for them, else 10 with the words needed
 unfoldable pub pack_answer : List ℕ → List ℕ → List ℕ → ℕ → Answer

@@ -3,41 +3,37 @@
 #![tactic(auto)]
 
 ghost use Rattle.std.specs.Prelude.{◌≡◌, ℕ, ◌≤◌, true, List, length};
+ghost use Rattle.words.specs.Reasons.{numbered, told};
 ghost use Rattle.words.specs.Writes.{kept};
-ghost use Rattle.runs.specs.PackedList.{writes, PackableRun, written};
+ghost use Rattle.runs.specs.PackedList.{writes, written};
+ghost use Rattle.planning.specs.RunWrites.{run_writes};
 ghost use Rattle.numbers.specs.Room.{if_room, space_after};
 ghost use Rattle.packer.specs.Checks.{wrong, check_answer, found};
-ghost use Rattle.packer.specs.Packing.{told, pack_answer, pack_space};
+ghost use Rattle.packer.specs.Packing.{pack_answer, pack_space};
 ghost use Rattle.packer.specs.Looking.{Clear, Looks};
 
-use words::Refusal;
+use planning::Run;
+use words::{Reason, Refusal};
 
-// The number of the refusal of a write to `id` under `mask`, 0 for none.
-fn wrong_with(id: u32, mask: u32) -> u32
-    ensures { result ≡ wrong id mask }
+// Why a write to `id` under `mask` is refused, if it is.
+fn wrong_with(id: u32, mask: u32) -> Option<Reason>
+    ensures { numbered result ≡ wrong id mask }
 {
     let too_wide = 15 < mask;
     if too_wide {
-        return words::MASK_ABOVE_15;
+        return Some(Reason::MaskAbove15);
     }
     words::fault(id, mask)
-}
-
-#[derive(Clone, Copy)]
-pub enum Checked {
-    Fine,
-    Refused(Refusal),
 }
 
 // 1 for a write that is refused or has mask 0, else 0. One test asks for both ends of the masks.
 fn counted(id: u32, mask: u32) -> u32
     ensures { (result ≤ 1) × (result ≡ 0 → (wrong id mask ≡ 0) × (1 ≤ mask)) }
 {
-    if 14 < std::num::wrapping_sub_u32(mask, 1) {
+    if 14 < mask.wrapping_sub(1) {
         return 1;
     }
-    let why = words::fault(id, mask);
-    if why == 0 {
+    if words::fault(id, mask).is_none() {
         return 0;
     }
     1
@@ -50,10 +46,8 @@ fn count_wrong(ids: &[u32], masks: &[u32]) -> u32
         → Clear 0 (writes ids.now masks.now vs) }
 {
     let mut count = 0;
-    let mut i = 0;
-    while i < ids.len() {
+    for i in 0..ids.len() {
         count += counted(ids[i], masks[i]);
-        i += 1;
     }
     count
 }
@@ -67,101 +61,75 @@ fn all_right(ids: &[u32], masks: &[u32]) -> bool
     if 16 <= ids.len() {
         return count_wrong(ids, masks) == 0;
     }
-    let mut i = 0;
-    while i < ids.len() {
+    for i in 0..ids.len() {
         if counted(ids[i], masks[i]) != 0 {
             return false;
         }
-        i += 1;
     }
     true
 }
 
-// What a look at the writes says: they are refused; or they aren't, and whether it is known that none of them has mask 0.
-#[derive(Clone, Copy)]
-enum Looked {
-    Fine(bool),
-    Refused(Refusal),
-}
-
-// Looks at the writes: 7, 8, or the first write that is refused, with 9, 3, 4 or 5 and its index. Most runs are passed at once.
-fn look(ids: &[u32], masks: &[u32], values: &[u32]) -> Looked
+// Looks at the writes: 7, 8, or the first write that is refused, with 9, 3, 4 or 5 and its index. Else whether it is known that none of
+// them has mask 0: most runs are passed at once.
+fn look(ids: &[u32], masks: &[u32], values: &[u32]) -> Result<bool, Refusal>
     ensures { Looks ids.now masks.now values.now result }
 {
     let n = ids.len();
     if !((n == masks.len()) & (n == values.len())) {
-        return Looked::Refused(Refusal {
-            number: words::LENGTHS_DIFFER,
+        return Err(Refusal {
+            reason: Reason::LengthsDiffer,
             place: 0,
         });
     }
     if 4096 < n {
-        return Looked::Refused(Refusal {
-            number: words::TOO_MANY_WRITES,
+        return Err(Refusal {
+            reason: Reason::TooManyWrites,
             place: 0,
         });
     }
     if all_right(ids, masks) {
-        return Looked::Fine(true);
+        return Ok(true);
     }
-    let mut i = 0;
-    while i < n {
-        let why = wrong_with(ids[i], masks[i]);
-        if why != 0 {
-            return Looked::Refused(Refusal {
-                number: why,
-                place: i,
-            });
+    for i in 0..n {
+        if let Some(reason) = wrong_with(ids[i], masks[i]) {
+            return Err(Refusal { reason, place: i });
         }
-        i += 1;
     }
-    Looked::Fine(false)
+    Ok(false)
 }
 
 // What is wrong with the writes: 7, 8, or the first write that is refused, with 9, 3, 4 or 5 and its index.
-pub fn check(ids: &[u32], masks: &[u32], values: &[u32]) -> Checked
+pub fn check(ids: &[u32], masks: &[u32], values: &[u32]) -> Result<(), Refusal>
     ensures { found result ≡ check_answer ids.now masks.now values.now }
 {
-    match look(ids, masks, values) {
-        Looked::Fine(_) => Checked::Fine,
-        Looked::Refused(why) => Checked::Refused(why),
-    }
-}
-
-#[derive(Clone, Copy)]
-pub enum Packed {
-    Words(usize),
-    Refused(Refusal),
+    look(ids, masks, values)?;
+    Ok(())
 }
 
 // Puts the list of writes that are not refused, or refuses with 10.
-fn pack_checked(ids: &[u32], masks: &[u32], values: &[u32], live: bool, space: &mut [u32]) -> Packed
-    requires { PackableRun ids.now masks.now values.now
-        × (live ≡ true → kept (writes ids.now masks.now values.now) ≡ writes ids.now masks.now values.now) }
-    ensures { (told result
-        ≡ if_room 10 (length (written (writes ids.now masks.now values.now))) (length space.old))
-        × (space.new
-        ≡ space_after (told result) (written (writes ids.now masks.now values.now)) space.old) }
+fn pack_checked(given: Run, live: bool, space: &mut [u32]) -> Result<usize, Refusal>
+    requires { live ≡ true → kept (run_writes given) ≡ run_writes given }
+    ensures { let l = written (run_writes given.entry) in
+        (told result ≡ if_room 10 (length l) (length space.old)) × (space.new ≡ space_after (told result) l space.old) }
 {
     let room = space.len();
-    let need = filling::put_list(ids, masks, values, live, space);
+    let need = filling::put_list(given, live, space);
     if room < need {
-        return Packed::Refused(Refusal {
-            number: words::NO_ROOM,
+        return Err(Refusal {
+            reason: Reason::NoRoom,
             place: need,
         });
     }
-    Packed::Words(need)
+    Ok(need)
 }
 
 // Packs writes into the start of the space and answers how many words it put there, or refuses: 7, 8, then each write in order for 9, 3,
 // 4, 5 with its index, then 10 with the words needed. Space past what is written keeps its contents; on a refusal all of it does.
-pub fn pack(ids: &[u32], masks: &[u32], values: &[u32], space: &mut [u32]) -> Packed
+pub fn pack(ids: &[u32], masks: &[u32], values: &[u32], space: &mut [u32]) -> Result<usize, Refusal>
     ensures { (told result ≡ pack_answer ids.now masks.now values.now (length space.old))
         × (space.new ≡ pack_space ids.now masks.now values.now space.old) }
 {
-    match look(ids, masks, values) {
-        Looked::Fine(live) => pack_checked(ids, masks, values, live, space),
-        Looked::Refused(why) => Packed::Refused(why),
-    }
+    let live = look(ids, masks, values)?;
+    let given = Run { ids, masks, values };
+    pack_checked(given, live, space)
 }

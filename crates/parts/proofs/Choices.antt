@@ -2,13 +2,6 @@
 use Rattle.std.proofs.Common.{◌≡◌, ℕ, ◌≤◌, Bool, true, ◌&&◌, eqb, leb, eqb-true, leb-true}
 use Rattle.numbers.proofs.Tests.{and_true}
 
-pub between_facts : (l p b f : ℕ) → (((eqb l 0 && eqb p 0) && eqb b 0) && eqb f 0) ≡ true → (l ≡ 0) × (p ≡ 0) × (b ≡ 0) × (f ≡ 0)
-between_facts l p b f e =
-    let u = and_true ((eqb l 0 && eqb p 0) && eqb b 0) (eqb f 0) e in
-    let v = and_true (eqb l 0 && eqb p 0) (eqb b 0) u.0 in
-    let w = and_true (eqb l 0) (eqb p 0) v.0 in
-    (eqb-true l 0 w.0, eqb-true p 0 w.1, eqb-true b 0 v.1, eqb-true f 0 u.1)
-
 pub whole_facts : (a b c d : ℕ) (t : Bool) → ((leb a b && leb c d) && t) ≡ true → (a ≤ b) × (c ≤ d) × (t ≡ true)
 whole_facts a b c d t e =
     let u = and_true (leb a b && leb c d) t e in

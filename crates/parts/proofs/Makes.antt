@@ -7,7 +7,7 @@ use Rattle.registers.specs.State.{State}
 use Rattle.registers.specs.Applied.{apply, apply_all, difference, differences}
 use Rattle.registers.proofs.Differences.{differences_none, differences_more}
 use Rattle.commands.proofs.Applying.{apply_none, apply_more}
-use Rattle.parts.specs.Progress.{first_of, sound, after, made}
+use Rattle.parts.specs.Progress.{sound, after, made}
 use Rattle.parts.specs.declared.Progress.{Progress}
 use Rattle.parts.proofs.Steps.{after_none, made_none}
 
@@ -29,12 +29,6 @@ counts_dropped s f w h z = rw (eq-eqb f 0 h, kept_drops w [] z, kept_none) (sym 
 pub counts_one : (s : State) (f : ℕ) (w : Write) → f ≡ 0 → (w.mask ≡ 0 → ⊥) → difference s w ≡ differences s (sound f w)
 counts_one s f w h z =
     rw (eq-eqb f 0 h, kept_keeps w [] z, kept_none) (omega (arith, differences_more s w [], differences_none (apply s w)))
-
-pub first_stands : (f g : ℕ) → (f ≡ 0 → ⊥) → f ≡ first_of f g
-first_stands f g h = rw (ne_eqb f 0 h)
-
-pub first_new : (f g : ℕ) → f ≡ 0 → g ≡ first_of f g
-first_new f g h = rw (eq-eqb f 0 h)
 
 -- A PART, from its word `at` on, where there is none
 module _ (s : State) (p : Progress) (l : List ℕ) (at : ℕ) where

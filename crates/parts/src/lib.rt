@@ -2,21 +2,23 @@
 // specs/Progress.antt and specs/Leads.antt.
 #![tactic(auto)]
 
-ghost use Rattle.std.specs.Prelude.{◌≡◌, ◌+◌, ◌<◌, ◌≤◌, min, length};
+ghost use Rattle.std.specs.Prelude.{◌≡◌, ◌+◌, ◌<◌, ◌≤◌, true, length};
 ghost use Rattle.numbers.specs.Bits.{spread};
 ghost use Rattle.words.specs.Header.{id_of, mask_of};
-ghost use Rattle.words.specs.Writes.{writing, fault_of};
-ghost use Rattle.registers.specs.State.{st, Lengths};
-ghost use Rattle.registers.specs.Tables.{LookupTables};
+ghost use Rattle.words.specs.Writes.{writing, kept, fault_of};
+ghost use Rattle.registers.specs.Lent.{lent, buffers};
 ghost use Rattle.registers.specs.Applied.{apply_all, differences};
 ghost use Rattle.commands.specs.Run.{run_from, run_with};
+ghost use Rattle.commands.specs.Clear.{last_id, clear};
 ghost use Rattle.parts.specs.Leads.{Leads};
 ghost use Rattle.parts.specs.Progress.{first_of, headed, sound, next, makes, made, onward};
 
+use registers::held::HeldTable;
+use registers::lent::Lent;
 use words::Header;
 
 // How far a reading has come: what the words so far leave for the next one to go by.
-#[derive(Clone, Copy)]
+#[derive(Clone, Copy, Debug, Default, PartialEq, Eq)]
 pub struct Progress {
     // the words that have come, held at 65,537
     pub come: u32,
@@ -48,25 +50,25 @@ fn first_fault(earlier: u32, id: u32, mask: u32) -> u32
     if earlier != 0 {
         return earlier;
     }
-    words::fault(id, mask)
+    match words::fault(id, mask) {
+        Some(reason) => u32::from(reason),
+        None => 0,
+    }
 }
 
 // One write, in the bytes of its mask, unless there is a fault so far or its mask is 0: 1 where it made a difference, else 0.
 fn put_sound(
-    cells: &mut [u32],
-    fog: &mut [u32],
-    light: &mut [u32],
-    slots: &[u8; 256],
-    held: &[u32; 132],
+    state: &mut Lent<'_>,
+    table: &HeldTable,
     fault: u32,
     id: u32,
     mask: u32,
     value: u32,
 ) -> u32
-    requires { Lengths cells.old fog.old light.old × LookupTables slots.now held.now }
-    ensures difference { result ≡ differences (st cells.old fog.old light.old) (sound fault (writing id mask value)) }
-    ensures state { st cells.new fog.new light.new
-        ≡ apply_all (st cells.old fog.old light.old) (sound fault (writing id mask value)) }
+    ensures same { buffers state.new ≡ buffers state.old }
+    ensures difference { result ≡ differences (lent state.old) (sound fault (writing id mask value)) }
+    ensures state { lent state.new
+        ≡ apply_all (lent state.old) (sound fault (writing id mask value)) }
 {
     if fault != 0 {
         return 0;
@@ -76,7 +78,7 @@ fn put_sound(
         return 0;
     }
     let bytes = ports::spread_mask(mask);
-    registers::put_one(cells, fog, light, slots, held, id, bytes, value, 0)
+    state.put_one(table, id, bytes, value, 0)
 }
 
 // The progress after a word, and whether the write that it makes made a difference: 1 or 0.
@@ -87,28 +89,20 @@ struct Taken {
 }
 
 // The header of the present command.
-fn take_header(
-    p: Progress,
-    cells: &mut [u32],
-    fog: &mut [u32],
-    light: &mut [u32],
-    slots: &[u8; 256],
-    held: &[u32; 132],
-    x: u32,
-) -> Taken
-    requires lengths { Lengths cells.old fog.old light.old × LookupTables slots.now held.now }
+fn take_header(p: Progress, state: &mut Lent<'_>, table: &HeldTable, x: u32) -> Taken
     requires come_bound { p.come ≤ 65535 }
+    ensures same { buffers state.new ≡ buffers state.old }
     ensures progress { result.progress ≡ headed p x }
     ensures difference { result.difference
-        ≡ differences (st cells.old fog.old light.old)
+        ≡ differences (lent state.old)
         (sound (headed p x).fault (writing (id_of x) (mask_of x) p.first)) }
-    ensures state { st cells.new fog.new light.new
-        ≡ apply_all (st cells.old fog.old light.old)
+    ensures state { lent state.new
+        ≡ apply_all (lent state.old)
         (sound (headed p x).fault (writing (id_of x) (mask_of x) p.first)) }
 {
     let h = words::parts(x);
     let fault = first_fault(p.fault, h.id, h.mask);
-    let difference = put_sound(cells, fog, light, slots, held, fault, h.id, h.mask, p.first);
+    let difference = put_sound(state, table, fault, h.id, h.mask, p.first);
     let mut q = p;
     q.come = p.come + 1;
     q.begun = 0;
@@ -117,7 +111,7 @@ fn take_header(
     q.step = h.step;
     q.left = h.count;
     q.pad = (2 + h.count) % 2;
-    q.writes = std::num::wrapping_add_u32(p.writes, commands::added(h.mask, h.count));
+    q.writes = p.writes.wrapping_add(commands::added(h.mask, h.count));
     q.fault = fault;
     Taken {
         progress: q,
@@ -126,20 +120,12 @@ fn take_header(
 }
 
 // One word: the progress after it, and the write that it makes.
-fn take_word(
-    p: Progress,
-    cells: &mut [u32],
-    fog: &mut [u32],
-    light: &mut [u32],
-    slots: &[u8; 256],
-    held: &[u32; 132],
-    x: u32,
-) -> Taken
-    requires { Lengths cells.old fog.old light.old × LookupTables slots.now held.now }
+fn take_word(p: Progress, state: &mut Lent<'_>, table: &HeldTable, x: u32) -> Taken
+    ensures same { buffers state.new ≡ buffers state.old }
     ensures progress { result.progress ≡ next p x }
-    ensures difference { result.difference ≡ differences (st cells.old fog.old light.old) (makes p x) }
-    ensures state { st cells.new fog.new light.new
-        ≡ apply_all (st cells.old fog.old light.old) (makes p x) }
+    ensures difference { result.difference ≡ differences (lent state.old) (makes p x) }
+    ensures state { lent state.new
+        ≡ apply_all (lent state.old) (makes p x) }
 {
     let mut q = p;
     if 65535 < p.come {
@@ -151,9 +137,9 @@ fn take_word(
     }
     q.come = p.come + 1;
     if 0 < p.left {
-        let id = std::num::wrapping_add_u32(p.id, p.step);
+        let id = p.id.wrapping_add(p.step);
         let fault = first_fault(p.fault, id, p.mask);
-        let difference = put_sound(cells, fog, light, slots, held, fault, id, p.mask, x);
+        let difference = put_sound(state, table, fault, id, p.mask, x);
         q.id = id;
         q.left = p.left - 1;
         q.fault = fault;
@@ -170,7 +156,7 @@ fn take_word(
         };
     }
     if 0 < p.begun {
-        return take_header(p, cells, fog, light, slots, held, x);
+        return take_header(p, state, table, x);
     }
     if p.fault == 0 {
         q.place = p.come;
@@ -189,76 +175,60 @@ fn take_word(
 
 // Writes to ids from `h.id` on, one for each of the `h.count` values that stand in `list` from `from` on: how many of them made a
 // difference. To a port's data every write does.
-fn put_run(
-    cells: &mut [u32],
-    fog: &mut [u32],
-    light: &mut [u32],
-    slots: &[u8; 256],
-    held: &[u32; 132],
-    h: Header,
-    list: &[u32],
-    from: usize,
-) -> u32
-    requires lengths { Lengths cells.old fog.old light.old × LookupTables slots.now held.now }
+fn put_run(state: &mut Lent<'_>, table: &HeldTable, h: Header, list: &[u32], from: usize) -> u32
     requires id_bound { (h.id ≤ 0x20000) × (h.count < 256) × (h.step ≤ 1) × (from + h.count ≤ length list.now) }
+    ensures same { buffers state.new ≡ buffers state.old }
     ensures count { (result
-        ≡ differences (st cells.old fog.old light.old)
+        ≡ differences (lent state.old)
         (run_from list.now from h.count h.id h.mask h.step))
         × (result ≤ h.count) }
-    ensures state { st cells.new fog.new light.new
-        ≡ apply_all (st cells.old fog.old light.old)
+    ensures state { lent state.new
+        ≡ apply_all (lent state.old)
         (run_from list.now from h.count h.id h.mask h.step) }
 {
-    let step = h.step;
-    let mut id = h.id;
-    if step == 0 {
+    let id = h.id;
+    if h.step == 0 {
         if (0xE8 <= id) & (id <= 0xEF) {
-            ports::upload_fog(cells, fog, list, from, h.count);
+            ports::upload_fog(state.cells, state.fog, list, from, h.count);
             return h.count;
         }
         if (0x1C8 <= id) & (id <= 0x1CF) {
-            ports::upload_light(cells, light, list, from, h.count);
+            ports::upload_light(state.cells, state.light, list, from, h.count);
             return h.count;
         }
-        return commands::apply_values(cells, slots, held, h, list, from);
+        return commands::apply_values(state.cells, table, h, list, from);
     }
     let mask = h.mask;
     let bytes = ports::spread_mask(mask);
-    let mut left = h.count;
-    let mut j = from;
     let mut n: u32 = 0;
-    while 0 < left {
-        n = registers::put_one(cells, fog, light, slots, held, id, bytes, list[j], n);
-        j += 1;
-        id += step;
-        left -= 1;
+    for k in 0..h.count {
+        let value = list[from + k as usize];
+        n = state.put_one(table, id + k, bytes, value, n);
     }
     n
 }
 
-// The writes of a command with the header `h`: its first value is `first`, the others stand in `list` from `from` on. Tells how many of
-// them made a difference. Allowed writes of mask 0 change nothing, so that they need no test. `commands::apply_run` does the same, and is
-// left to `reader`: a function that is called from more places than one is not put in line, and reading was slower.
+// The writes of a command with the header `h`, none of which can be at fault, but for those of mask 0, which change nothing: its first
+// value is `first`, the others stand in `list` from `from` on. Tells how many of them made a difference. `commands::apply_run` does the
+// same, and is left to `reader`: a function that is called from more places than one is not put in line, and reading was slower.
 fn put_command(
-    cells: &mut [u32],
-    fog: &mut [u32],
-    light: &mut [u32],
-    slots: &[u8; 256],
-    held: &[u32; 132],
+    state: &mut Lent<'_>,
+    table: &HeldTable,
     h: Header,
     first: u32,
     list: &[u32],
     from: usize,
 ) -> u32
-    requires lengths { Lengths cells.old fog.old light.old × LookupTables slots.now held.now }
     requires id_bound { (h.id < 0x20000) × (h.count < 256) × (h.step ≤ 1) × (from + h.count ≤ length list.now) }
-    ensures count { result ≡ differences (st cells.old fog.old light.old) (run_with h first list.now from) }
-    ensures state { st cells.new fog.new light.new
-        ≡ apply_all (st cells.old fog.old light.old) (run_with h first list.now from) }
+    requires sound { clear h.id (last_id h.id h.count h.step) h.mask ≡ true }
+    ensures same { buffers state.new ≡ buffers state.old }
+    ensures count { result ≡ differences (lent state.old) (kept (run_with h first list.now from)) }
+    ensures state { lent state.new
+        ≡ apply_all (lent state.old) (kept (run_with h first list.now from)) }
 {
     let mask = h.mask;
     let bytes = ports::spread_mask(mask);
-    let n = registers::put_one(cells, fog, light, slots, held, h.id, bytes, first, 0);
+    let n = state.put_one(table, h.id, bytes, first, 0);
     if h.count == 0 {
         return n;
     }
@@ -268,7 +238,7 @@ fn put_command(
         count: h.count,
         step: h.step,
     };
-    n + put_run(cells, fog, light, slots, held, rest, list, from)
+    n + put_run(state, table, rest, list, from)
 }
 
 // How far a step led within a part, and how many of the writes that it made made a difference.
@@ -282,21 +252,18 @@ struct Reached {
 // The word at `at`.
 fn take_one(
     p: Progress,
-    cells: &mut [u32],
-    fog: &mut [u32],
-    light: &mut [u32],
-    slots: &[u8; 256],
-    held: &[u32; 132],
+    state: &mut Lent<'_>,
+    table: &HeldTable,
     part: &[u32],
     at: usize,
 ) -> Reached
-    requires lengths { Lengths cells.old fog.old light.old × LookupTables slots.now held.now }
     requires at_in_bounds { at < length part.now }
+    ensures same { buffers state.new ≡ buffers state.old }
     ensures further { at < result.at }
-    ensures leads { Leads part.now p at (st cells.old fog.old light.old)
-        result.progress result.at (st cells.new fog.new light.new) result.differences }
+    ensures leads { Leads part.now p at (lent state.old)
+        result.progress result.at (lent state.new) result.differences }
 {
-    let w = take_word(p, cells, fog, light, slots, held, part[at]);
+    let w = take_word(p, state, table, part[at]);
     let progress = w.progress;
     Reached {
         progress,
@@ -306,22 +273,19 @@ fn take_one(
 }
 
 // The commands from `at` on whose words are all here and below the limit, one after another, as long as none of their writes can be at
-// fault. What the next word goes by is kept apart, and put together at the end: a progress that is written in parts and read whole holds
-// up each command.
+// fault. How many words one takes tells where the next begins, which no iterator gives. What the next word goes by is kept apart, and put
+// together at the end: a progress that is written in parts and read whole holds up each command.
 fn take_commands(
     p: Progress,
-    cells: &mut [u32],
-    fog: &mut [u32],
-    light: &mut [u32],
-    slots: &[u8; 256],
-    held: &[u32; 132],
+    state: &mut Lent<'_>,
+    table: &HeldTable,
     part: &[u32],
     at: usize,
 ) -> Reached
-    requires lengths { Lengths cells.old fog.old light.old × LookupTables slots.now held.now }
     requires at_in_bounds { (at ≤ length part.now) × (p.left ≡ 0) × (p.pad ≡ 0) × (p.begun ≡ 0) × (p.fault ≡ 0) }
-    ensures { Leads part.now p at (st cells.old fog.old light.old)
-        result.progress result.at (st cells.new fog.new light.new) result.differences }
+    ensures same { buffers state.new ≡ buffers state.old }
+    ensures leads { Leads part.now p at (lent state.old)
+        result.progress result.at (lent state.new) result.differences }
 {
     let mut come = p.come;
     let mut place = p.place;
@@ -340,7 +304,7 @@ fn take_commands(
         if !(here & commands::is_clear(h.id, last, h.mask)) {
             break 'commands;
         }
-        let n = put_command(cells, fog, light, slots, held, h, part[i], part, i + 2);
+        let n = put_command(state, table, h, part[i], part, i + 2);
         differences += n as usize;
         place = come;
         come += (h.count + 3) / 2 * 2;
@@ -348,7 +312,7 @@ fn take_commands(
         id = last;
         mask = h.mask;
         step = h.step;
-        writes = std::num::wrapping_add_u32(writes, commands::added(h.mask, h.count));
+        writes = writes.wrapping_add(commands::added(h.mask, h.count));
         i += taken;
     }
     Reached {
@@ -371,40 +335,27 @@ fn take_commands(
     }
 }
 
-fn least(a: u32, b: u32) -> u32
-    ensures { result ≡ min a b }
-{
-    if a < b { a } else { b }
-}
-
 // How many extra parameters can be taken in one run: those that are here and below the limit, at most 256.
 fn run_length(left: u32, come: u32, here: usize) -> u32
     requires { (0 < left) × (come ≤ 65535) × (0 < here) }
     ensures { (0 < result) × (result ≤ left) × (come + result ≤ 65536) × (result ≤ here) × (result ≤ 256) }
 {
-    let most = least(least(left, 65536 - come), 256);
-    if here < most as usize {
-        here as u32
-    } else {
-        most
-    }
+    let most = left.min(65536 - come).min(256);
+    here.min(most as usize) as u32
 }
 
 // The extra parameters that are here, in one run, if none of their writes can be at fault.
 fn take_extras(
     p: Progress,
-    cells: &mut [u32],
-    fog: &mut [u32],
-    light: &mut [u32],
-    slots: &[u8; 256],
-    held: &[u32; 132],
+    state: &mut Lent<'_>,
+    table: &HeldTable,
     part: &[u32],
     at: usize,
 ) -> Reached
-    requires lengths { Lengths cells.old fog.old light.old × LookupTables slots.now held.now }
     requires at_in_bounds { (at < length part.now) × (0 < p.left) }
-    ensures { Leads part.now p at (st cells.old fog.old light.old)
-        result.progress result.at (st cells.new fog.new light.new) result.differences }
+    ensures same { buffers state.new ≡ buffers state.old }
+    ensures leads { Leads part.now p at (lent state.old)
+        result.progress result.at (lent state.new) result.differences }
 {
     if !((p.fault == 0) & (p.step <= 1) & (p.id <= 0xFFFF) & (p.come <= 65535)) {
         return Reached {
@@ -429,7 +380,7 @@ fn take_extras(
         count: n - 1,
         step: p.step,
     };
-    let differences = put_command(cells, fog, light, slots, held, h, part[at], part, at + 1);
+    let differences = put_command(state, table, h, part[at], part, at + 1);
     let mut q = p;
     q.come = p.come + n;
     q.id = last;
@@ -444,24 +395,21 @@ fn take_extras(
 // Some words from `at` on at once, commands or extra parameters; or none.
 fn take_several(
     p: Progress,
-    cells: &mut [u32],
-    fog: &mut [u32],
-    light: &mut [u32],
-    slots: &[u8; 256],
-    held: &[u32; 132],
+    state: &mut Lent<'_>,
+    table: &HeldTable,
     part: &[u32],
     at: usize,
 ) -> Reached
-    requires lengths { Lengths cells.old fog.old light.old × LookupTables slots.now held.now }
     requires at_in_bounds { at < length part.now }
-    ensures { Leads part.now p at (st cells.old fog.old light.old)
-        result.progress result.at (st cells.new fog.new light.new) result.differences }
+    ensures same { buffers state.new ≡ buffers state.old }
+    ensures leads { Leads part.now p at (lent state.old)
+        result.progress result.at (lent state.new) result.differences }
 {
     if 0 < p.left {
-        return take_extras(p, cells, fog, light, slots, held, part, at);
+        return take_extras(p, state, table, part, at);
     }
     if (p.left == 0) & (p.pad == 0) & (p.begun == 0) & (p.fault == 0) {
-        return take_commands(p, cells, fog, light, slots, held, part, at);
+        return take_commands(p, state, table, part, at);
     }
     Reached {
         progress: p,
@@ -473,53 +421,43 @@ fn take_several(
 // Some words from `at` on, and one at least.
 fn take_some(
     p: Progress,
-    cells: &mut [u32],
-    fog: &mut [u32],
-    light: &mut [u32],
-    slots: &[u8; 256],
-    held: &[u32; 132],
+    state: &mut Lent<'_>,
+    table: &HeldTable,
     part: &[u32],
     at: usize,
 ) -> Reached
-    requires lengths { Lengths cells.old fog.old light.old × LookupTables slots.now held.now }
     requires at_in_bounds { at < length part.now }
+    ensures same { buffers state.new ≡ buffers state.old }
     ensures further { at < result.at }
-    ensures leads { Leads part.now p at (st cells.old fog.old light.old)
-        result.progress result.at (st cells.new fog.new light.new) result.differences }
+    ensures leads { Leads part.now p at (lent state.old)
+        result.progress result.at (lent state.new) result.differences }
 {
-    let r = take_several(p, cells, fog, light, slots, held, part, at);
+    let r = take_several(p, state, table, part, at);
     if at < r.at {
         return r;
     }
     let reached = r.progress;
-    take_one(reached, cells, fog, light, slots, held, part, r.at)
+    take_one(reached, state, table, part, r.at)
 }
 
-// A part, from its first word to its last. The differences of its writes are added at the end.
-pub fn take_part(
-    p: Progress,
-    cells: &mut [u32],
-    fog: &mut [u32],
-    light: &mut [u32],
-    part: &[u32],
-) -> Progress
-    requires { Lengths cells.old fog.old light.old }
-    ensures progress { result ≡ onward p (st cells.old fog.old light.old) part.now }
-    ensures state { st cells.new fog.new light.new
-        ≡ apply_all (st cells.old fog.old light.old) (made p part.now) }
+// A part, from its first word to its last, by steps of one word or more. The differences of its writes are added at the end.
+pub fn take_part(p: Progress, state: &mut Lent<'_>, part: &[u32]) -> Progress
+    ensures same { buffers state.new ≡ buffers state.old }
+    ensures progress { result ≡ onward p (lent state.old) part.now }
+    ensures state { lent state.new
+        ≡ apply_all (lent state.old) (made p part.now) }
 {
-    let slots = registers::held::slot_table();
-    let held = registers::held::held_table();
+    let table = HeldTable::new();
     let mut q = p;
     let mut at: usize = 0;
     let mut n: usize = 0;
     while at < part.len() {
-        let r = take_some(q, cells, fog, light, &slots, &held, part, at);
+        let r = take_some(q, state, &table, part, at);
         let reached = r.progress;
         q = reached;
         at = r.at;
         n += r.differences;
     }
-    q.differences = std::num::wrapping_add_u32(p.differences, (n % 0x100000000) as u32);
+    q.differences = p.differences.wrapping_add((n % 0x100000000) as u32);
     q
 }

@@ -14,6 +14,7 @@ use Rattle.numbers.specs.Room.{level, and_then, if_room}
 use Rattle.numbers.proofs.Tests.{and_true}
 use Rattle.numbers.proofs.Picks.{pick_either}
 use Rattle.numbers.proofs.Room.{level_lengths}
+use Rattle.words.specs.declared.Reason.TheVariants.{BufferLength, CodeWithoutName, DepthAboveLargest, NotBuilt}
 use Rattle.words.specs.Header.{count_of, words_of}
 use Rattle.words.specs.Writes.{Write, kept}
 use Rattle.words.specs.Commands.{header_at, whole, expand, places, commands, expansion, legal}
@@ -29,7 +30,6 @@ use Rattle.parts.specs.Progress.{fresh, after, between, fault_number, closing}
 use Rattle.pieces.specs.Pieces.{wrong_length, both_sized, opening, fed, feeding, close_answer}
 use Rattle.pieces.specs.Pieces as pieces
 use Rattle.parts.specs.declared.Progress.{Progress}
-use Rattle.pieces.specs.declared.Going.TheVariants.{Come}
 use Rattle.writes.specs.Listed.{writes_answer}
 use Rattle.runs.specs.PackedList.{writes, written}
 use Rattle.runs.proofs.Shortest.{written_short}
@@ -40,8 +40,6 @@ use Rattle.packer.proofs.Checks.{check_given}
 use Rattle.decode.specs.Codes.{Check, stage_checks, frame_checks, checks, first_of, lowest}
 use Rattle.decode.specs.Decoded.{settings_of, nameless_id, refusal, decoded_of}
 use Rattle.settings.specs.declared.records.Settings.{Settings}
-use Rattle.decode.specs.declared.Decoded.{Decoded}
-use Rattle.decode.specs.declared.Decoded.TheVariants as decoded
 use Rattle.combiner.specs.declared.Given.{Given}
 use Rattle.stores.specs.Tests.{verdict_number}
 use Rattle.fragment.specs.Drawn.{outcome_of, fog_unbuilt, operation_unbuilt, format_unbuilt, largest, unbuilt_id, drawn_with, drawn_from, drawn_of}
@@ -49,9 +47,10 @@ use Rattle.fragment.specs.Drawn as cuts
 use Rattle.stores.specs.declared.Verdict.{Verdict}
 use Rattle.stores.specs.declared.Verdict.TheVariants as verdicts
 use Rattle.stores.specs.declared.Stored.{Stored}
-use Rattle.fragment.specs.declared.Drawn.{Drawn}
-use Rattle.fragment.specs.declared.Drawn.TheVariants as drawn
 use Rattle.pica.specs.Calls.{call}
+use Rattle.std.specs.Prelude.{Result, Ok, Err}
+use Rattle.words.specs.declared.Refusal.{Refusal}
+use Rattle.fragment.specs.declared.Outcome.{Outcome}
 
 -- what a call's low 32 bits are to hold
 abbrev pub value_in : Answer → ℕ
@@ -113,7 +112,7 @@ pub open_uncut : (live spare : State) → value_in (pieces.told (opening live sp
 unfolding opening
 open_uncut live spare = go (both_sized live spare)
   where
-    go : (b : Bool) → value_in (pieces.told (pick b (Come fresh) wrong_length)) ≡ 0
+    go : (b : Bool) → value_in (pieces.told (pick b (Ok fresh) wrong_length)) ≡ 0
     go true = refl
     go false = refl
 
@@ -125,7 +124,7 @@ pub feed_uncut : (p : Progress) (spare : State) (l : List ℕ) → value_in (pie
 unfolding feeding
 feed_uncut p spare l = go (sized spare)
   where
-    go : (b : Bool) → value_in (pieces.told (pick b (Come (fed p spare l)) wrong_length)) ≤ 65537
+    go : (b : Bool) → value_in (pieces.told (pick b (Ok (fed p spare l)) wrong_length)) ≤ 65537
     go true = held_below (after p l).come (ltb 65536 (after p l).come) refl
     go false = omega arith
 
@@ -251,12 +250,12 @@ lowest_below : (s : Settings) → lowest (checks s) ≤ 0x117
 unfolding checks stage_checks frame_checks all_below
 lowest_below s = first_below 0x117 0 (checks s) refl (omega arith)
 
-abbrev pub place_of : Decoded → ℕ
-place_of (decoded.Held s) = 0
-place_of (decoded.Refused r) = r.place
+abbrev pub place_of : Result Settings Refusal → ℕ
+place_of (Ok s) = 0
+place_of (Err r) = r.place
 
 by_code : (s : State) (a b : Bool)
-    → place_of (pick a (pick b (decoded.Held (settings_of s)) (refusal 13 (nameless_id s))) (refusal 6 0)) ≤ 0x117
+    → place_of (pick a (pick b (Ok (settings_of s)) (refusal CodeWithoutName (nameless_id s))) (refusal BufferLength 0)) ≤ 0x117
 by_code s true true = omega arith
 by_code s true false = lowest_below (settings_of s)
 by_code s false b = omega arith
@@ -266,9 +265,9 @@ unfolding decoded_of
 decode_uncut s = by_code s (sized s) (eqb (nameless_id s) 0)
 
 -- the verdict, or the place
-abbrev pub drawn_value : Drawn → ℕ
-drawn_value (drawn.Done o) = verdict_number o.verdict
-drawn_value (drawn.Refused r) = r.place
+abbrev pub drawn_value : Result Outcome Refusal → ℕ
+drawn_value (Ok o) = verdict_number o.verdict
+drawn_value (Err r) = r.place
 
 verdict_below : (v : Verdict) → verdict_number v ≤ 3
 verdict_below verdicts.AlphaFails = omega arith
@@ -285,19 +284,19 @@ unbuilt_below s =
 
 by_depth : (s : Settings) (g : Given) (incoming : ℕ) (stored : Stored) (a b c : Bool)
     → drawn_value
-    (pick a (pick b (cuts.refusal 12 0) (pick c (cuts.refusal 12 1) (drawn.Done (outcome_of s g incoming stored))))
-    (cuts.refusal 14 (unbuilt_id s)))
+    (pick a (pick b (cuts.refusal DepthAboveLargest 0) (pick c (cuts.refusal DepthAboveLargest 1) (Ok (outcome_of s g incoming stored))))
+    (cuts.refusal NotBuilt (unbuilt_id s)))
     ≤ 0x117
 by_depth s g incoming stored true true c = omega arith
 by_depth s g incoming stored true false true = omega arith
 by_depth s g incoming stored true false false = omega (arith, verdict_below (outcome_of s g incoming stored).verdict)
 by_depth s g incoming stored false b c = unbuilt_below s
 
-by_decoded : (d : Decoded) (g : Given) (incoming : ℕ) (stored : Stored)
+by_decoded : (d : Result Settings Refusal) (g : Given) (incoming : ℕ) (stored : Stored)
     → place_of d ≤ 0x117 → drawn_value (drawn_from d g incoming stored) ≤ 0x117
 unfolding drawn_from drawn_with
-by_decoded (decoded.Refused r) g incoming stored h = h
-by_decoded (decoded.Held s) g incoming stored h =
+by_decoded (Err r) g incoming stored h = h
+by_decoded (Ok s) g incoming stored h =
     let top = largest s.framebuffer.buffers.depth_format in
     by_depth s g incoming stored (eqb (unbuilt_id s) 0) (ltb top incoming) (ltb top stored.depth)
 

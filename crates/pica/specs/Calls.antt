@@ -5,14 +5,15 @@ use Rattle.numbers.specs.Answer.{Answer, answered, refused, Answers, both, neith
 use Rattle.registers.specs.State.{State}
 use Rattle.settings.specs.Colours.{colour_of, word_of}
 use Rattle.settings.specs.Flat.{flat}
-use Rattle.decode.specs.declared.Decoded.{Decoded}
-use Rattle.decode.specs.declared.Decoded.TheVariants as decoded
 use Rattle.combiner.specs.declared.Given.{Given}
 use Rattle.stores.specs.Tests.{verdict_number}
 use Rattle.fragment.specs.Drawn.{drawn_of}
 use Rattle.stores.specs.declared.Stored.{Stored}
-use Rattle.fragment.specs.declared.Drawn.{Drawn}
-use Rattle.fragment.specs.declared.Drawn.TheVariants as drawn
+use Rattle.std.specs.Prelude.{Result, Ok, Err}
+use Rattle.words.specs.declared.Refusal.{Refusal}
+use Rattle.settings.specs.declared.records.Settings.{Settings}
+use Rattle.fragment.specs.declared.Outcome.{Outcome}
+use Rattle.words.specs.Reasons.{number_of}
 
 abbrev pub call : ℕ → ℕ → ℕ
 call number value = number * 0x100000000 + value % 0x100000000
@@ -30,13 +31,13 @@ differences_after (both n d) old = d ∷ []
 differences_after (neither r p) old = old
 
 -- pica_decode: 0, and one word a field; untouched on a refusal
-abbrev pub decode_call : Decoded → ℕ
-decode_call (decoded.Held s) = call 0 0
-decode_call (decoded.Refused r) = call r.number r.place
+abbrev pub decode_call : Result Settings Refusal → ℕ
+decode_call (Ok s) = call 0 0
+decode_call (Err r) = call (number_of r.reason) r.place
 
-abbrev pub fields_after : Decoded → List ℕ → List ℕ
-fields_after (decoded.Held s) old = flat s
-fields_after (decoded.Refused r) old = old
+abbrev pub fields_after : Result Settings Refusal → List ℕ → List ℕ
+fields_after (Ok s) old = flat s
+fields_after (Err r) old = old
 
 -- pica_fragment: seven colours, each a word: primary, fragment primary, fragment secondary, textures 0 to 3
 abbrev pub given_of : List ℕ → Given
@@ -55,18 +56,18 @@ given_of ws =
 abbrev pub stored_of : List ℕ → Stored
 stored_of ws = record { colour = colour_of (get_or ws 8 0); stencil = get_or ws 9 0 % 256; depth = get_or ws 10 0 }
 
-abbrev pub fragment_of : State → List ℕ → Drawn
+abbrev pub fragment_of : State → List ℕ → Result Outcome Refusal
 fragment_of s ws = drawn_of s (given_of ws) (get_or ws 7 0) (stored_of ws)
 
 -- the verdict
-abbrev pub fragment_call : Drawn → ℕ
-fragment_call (drawn.Done o) = call 0 (verdict_number o.verdict)
-fragment_call (drawn.Refused r) = call r.number r.place
+abbrev pub fragment_call : Result Outcome Refusal → ℕ
+fragment_call (Ok o) = call 0 (verdict_number o.verdict)
+fragment_call (Err r) = call (number_of r.reason) r.place
 
 -- colour, stencil, depth as then stored; untouched on a refusal
 abbrev pub stored_words : Stored → List ℕ
 stored_words s = word_of s.colour ∷ s.stencil ∷ s.depth ∷ []
 
-abbrev pub stored_words_after : Drawn → List ℕ → List ℕ
-stored_words_after (drawn.Done o) old = stored_words o.stored
-stored_words_after (drawn.Refused r) old = old
+abbrev pub stored_words_after : Result Outcome Refusal → List ℕ → List ℕ
+stored_words_after (Ok o) old = stored_words o.stored
+stored_words_after (Err r) old = old

@@ -2,8 +2,8 @@
 -- order. Any twelve words are a progress.
 use Rattle.std.specs.Prelude.{List, [], ◌∷◌, ℕ, get_or}
 use Rattle.parts.specs.declared.Progress.{Progress}
-use Rattle.pieces.specs.declared.Going.{Going}
-use Rattle.pieces.specs.declared.Going.TheVariants.{Come, Refused}
+use Rattle.std.specs.Prelude.{Result, Ok, Err}
+use Rattle.words.specs.declared.Refusal.{Refusal}
 
 abbrev pub progress_of : List ℕ → Progress
 progress_of ws =
@@ -28,6 +28,6 @@ words_of p =
     ∷ p.differences ∷ []
 
 -- pica_open, pica_feed: the progress to go on from; untouched on a refusal
-abbrev pub reader_after : Going → List ℕ → List ℕ
-reader_after (Come p) old = words_of p
-reader_after (Refused r) old = old
+abbrev pub reader_after : Result Progress Refusal → List ℕ → List ℕ
+reader_after (Ok p) old = words_of p
+reader_after (Err r) old = old

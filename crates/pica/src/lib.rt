@@ -3,38 +3,34 @@
 #![tactic(auto)]
 
 ghost use Rattle.std.specs.Prelude.{◌≡◌, length};
+ghost use Rattle.words.specs.Reasons as words;
 ghost use Rattle.words.specs.Writes.{writing};
 ghost use Rattle.registers.specs.State.{st};
 ghost use Rattle.registers.specs.Single.{write_answer, write_state};
-ghost use Rattle.numbers.specs.Pick.{pick};
 ghost use Rattle.reader.specs.Read.{read_answers, read_state};
 ghost use Rattle.pieces.specs.Pieces.{opening, opened_spare, feeding, fed_spare, close_answers, close_progress, closed_live, closed_spare};
 ghost use Rattle.pieces.specs.Pieces as pieces;
 ghost use Rattle.writes.specs.Listed.{writes_answer, writes_ids, writes_masks, writes_values};
 ghost use Rattle.packer.specs.Packing.{pack_answer, pack_space};
 ghost use Rattle.decode.specs.Decoded.{decoded_of};
-ghost use Rattle.stores.specs.Tests.{verdict_number};
-ghost use Rattle.pica.specs.Calls.{call, answer, answers, differences_after};
+ghost use Rattle.pica.specs.Calls.{answer, answers, differences_after};
 ghost use Rattle.pica.specs.Calls.{decode_call, fields_after, fragment_of, fragment_call, stored_words_after};
 ghost use Rattle.pica.specs.Readers.{progress_of, words_of, reader_after};
 
-use decode::Decoded;
-use fragment::Drawn;
-use packer::Packed;
-use pieces::Going;
-use reader::{ListVerdict, Reading};
-use registers::Written;
-use stores::Verdict;
+use parts::Progress;
 use words::Refusal;
 
 mod colours;
 mod readers;
 
-// A refusal's number above, a place or an answer below.
-fn told(number: u32, value: usize) -> u64
-    ensures { result ≡ call number value }
+// A refusal's number above, its place or the answer below.
+fn told(given: Result<usize, Refusal>) -> u64
+    ensures { result ≡ answer (words.told given) }
 {
-    number as u64 * 0x100000000 + value as u64 % 0x100000000
+    match given {
+        Ok(n) => n as u64 % 0x100000000,
+        Err(why) => { u32::from(why.reason) as u64 * 0x100000000 + why.place as u64 % 0x100000000 }
+    }
 }
 
 // A list read into a state: the number of writes in its expansion; in `differences` how many of them made a difference, untouched on a
@@ -53,29 +49,22 @@ pub fn pica_read(
     ensures state { st cells.new fog.new light.new
         ≡ read_state (st cells.old fog.old light.old) list.now }
 {
-    match reader::read(cells, fog, light, list) {
-        Reading::Accepted(counts) => {
-            let writes = counts.writes;
-            *differences = [counts.differences];
-            told(0, writes)
-        }
-        Reading::Refused(why) => told(why.number, why.place),
+    let answer = reader::read(cells, fog, light, list);
+    if let Ok(counts) = answer {
+        *differences = [counts.differences];
     }
+    told(answer.map(|counts| counts.writes))
 }
 
 // How a reading goes on, laid into the reader and told: the words that have come, or the refusal.
-fn told_going(reader: &mut [u32; 12], g: Going) -> u64
-    ensures answer { result ≡ answer (pieces.told g) }
-    ensures reader { reader.new ≡ reader_after g reader.old }
+fn told_going(reader: &mut [u32; 12], going: Result<Progress, Refusal>) -> u64
+    ensures answer { result ≡ answer (pieces.told going) }
+    ensures reader { reader.new ≡ reader_after going reader.old }
 {
-    match g {
-        Going::Come(p) => {
-            let come = p.come;
-            *reader = readers::words_of(p);
-            told(0, come as usize)
-        }
-        Going::Refused(why) => told(why.number, why.place),
+    if let Ok(p) = going {
+        *reader = readers::words_of(p);
     }
+    told(going.map(|p| p.come as usize))
 }
 
 // A list that arrives in pieces is opened: 0.
@@ -168,20 +157,10 @@ pub fn pica_close(
     let closed = pieces::close(p, cells, fog, light, spare_cells, spare_fog, spare_light);
     let verdict = closed.verdict;
     *reader = readers::words_of(closed.progress);
-    match verdict {
-        Reading::Accepted(made) => {
-            let writes = made.writes;
-            *differences = [made.differences];
-            told(0, writes)
-        }
-        Reading::Refused(fault) => told(fault.number, fault.place),
+    if let Ok(made) = verdict {
+        *differences = [made.differences];
     }
-}
-
-fn one_if(difference: bool) -> usize
-    ensures { result ≡ pick difference 1 0 }
-{
-    if difference { 1 } else { 0 }
+    told(verdict.map(|made| made.writes))
 }
 
 // One write applied to a state: 1 if it made a difference, else 0.
@@ -197,10 +176,7 @@ pub fn pica_write(
     ensures state { st cells.new fog.new light.new
         ≡ write_state (st cells.old fog.old light.old) (writing id mask value) }
 {
-    match registers::write(cells, fog, light, id, mask, value) {
-        Written::Done(difference) => told(0, one_if(difference)),
-        Written::Refused(why) => told(why.number, why.place),
-    }
+    told(registers::write(cells, fog, light, id, mask, value).map(usize::from))
 }
 
 // The writes of a list, put into three buffers: how many there are.
@@ -210,10 +186,7 @@ pub fn pica_writes(list: &[u32], ids: &mut [u32], masks: &mut [u32], values: &mu
     ensures masks { masks.new ≡ writes_masks list.now ids.old masks.old values.old }
     ensures values { values.new ≡ writes_values list.now ids.old masks.old values.old }
 {
-    match writes::writes_of(list, ids, masks, values) {
-        ListVerdict::Accepted(count) => told(0, count),
-        ListVerdict::Refused(refusal) => told(refusal.number, refusal.place),
-    }
+    told(writes::writes_of(list, ids, masks, values))
 }
 
 // Writes packed into the shortest list: how many words of the space it takes.
@@ -221,10 +194,7 @@ pub fn pica_pack(ids: &[u32], masks: &[u32], values: &[u32], space: &mut [u32]) 
     ensures answer { result ≡ answer (pack_answer ids.now masks.now values.now (length space.old)) }
     ensures space { space.new ≡ pack_space ids.now masks.now values.now space.old }
 {
-    match packer::pack(ids, masks, values, space) {
-        Packed::Words(n) => told(0, n),
-        Packed::Refused(why) => told(why.number, why.place),
-    }
+    told(packer::pack(ids, masks, values, space))
 }
 
 // The decoded state, one word a field: 0.
@@ -233,24 +203,11 @@ pub fn pica_decode(cells: &[u32], fog: &[u32], light: &[u32], fields: &mut [u32;
     ensures fields { fields.new
         ≡ fields_after (decoded_of (st cells.now fog.now light.now)) fields.old }
 {
-    match decode::decode(cells, fog, light) {
-        Decoded::Held(settings) => {
-            flat::lay_settings(fields, settings);
-            0
-        }
-        Decoded::Refused(why) => told(why.number, why.place),
+    let answer = decode::decode(cells, fog, light);
+    if let Ok(settings) = answer {
+        flat::lay_settings(fields, settings);
     }
-}
-
-fn verdict_number(v: Verdict) -> usize
-    ensures { result ≡ verdict_number v }
-{
-    match v {
-        Verdict::AlphaFails => 0,
-        Verdict::StencilFails => 1,
-        Verdict::DepthFails => 2,
-        Verdict::Passes => 3,
-    }
+    told(answer.map(|_| 0))
 }
 
 // What becomes of a fragment: the verdict's number, and what is then stored.
@@ -268,13 +225,9 @@ pub fn pica_fragment(
 {
     let g = colours::given_of(given);
     let old = colours::stored_of(given);
-    match fragment::draw(cells, fog, light, g, given[7], old) {
-        Drawn::Done(o) => {
-            let verdict = o.verdict;
-            let now_stored = o.stored;
-            *stored = colours::words_stored(now_stored);
-            told(0, verdict_number(verdict))
-        }
-        Drawn::Refused(why) => told(why.number, why.place),
+    let answer = fragment::draw(cells, fog, light, g, given[7], old);
+    if let Ok(outcome) = answer {
+        *stored = colours::words_stored(outcome.stored);
     }
+    told(answer.map(|outcome| outcome.verdict as usize))
 }

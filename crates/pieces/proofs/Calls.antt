@@ -12,7 +12,7 @@ use Rattle.copies.specs.Copy.{taken}
 use Rattle.pieces.specs.Pieces.{told, wrong_length, both_sized, opening, open_answer, opened_spare, fed, feeding, feed_answer, fed_spare}
 use Rattle.pieces.specs.Pieces.{close_answer, close_answers, close_progress, closed_live, closed_spare}
 use Rattle.parts.specs.declared.Progress.{Progress}
-use Rattle.pieces.specs.declared.Going.TheVariants.{Come}
+use Rattle.std.specs.Prelude.{Ok}
 
 -- FEEDING
 module _ (p : Progress) (s : State) (l : List ℕ) where
@@ -20,7 +20,7 @@ module _ (p : Progress) (s : State) (l : List ℕ) where
   unfolding feeding fed_spare
   feed_wrong e = rw e (refl, refl)
 
-  pub feed_right : sized s ≡ true → (Come (fed p s l) ≡ feeding p s l) × (apply_all s (made p l) ≡ fed_spare p s l)
+  pub feed_right : sized s ≡ true → (Ok (fed p s l) ≡ feeding p s l) × (apply_all s (made p l) ≡ fed_spare p s l)
   unfolding feeding fed_spare
   feed_right e = rw e (refl, refl)
 
@@ -29,7 +29,7 @@ pub open_told : (live spare : State) → told (opening live spare) ≡ open_answ
 unfolding opening open_answer
 open_told live spare = go (both_sized live spare)
   where
-    go : (b : Bool) → told (pick b (Come fresh) wrong_length) ≡ pick b (answered 0) (refused 6 0)
+    go : (b : Bool) → told (pick b (Ok fresh) wrong_length) ≡ pick b (answered 0) (refused 6 0)
     go true = refl
     go false = refl
 
@@ -37,7 +37,7 @@ pub feed_told : (p : Progress) (s : State) (l : List ℕ) → told (feeding p s 
 unfolding feeding feed_answer
 feed_told p s l = go (sized s)
   where
-    go : (b : Bool) → told (pick b (Come (fed p s l)) wrong_length) ≡ pick b (answered (held_at (after p l).come)) (refused 6 0)
+    go : (b : Bool) → told (pick b (Ok (fed p s l)) wrong_length) ≡ pick b (answered (held_at (after p l).come)) (refused 6 0)
     go true = refl
     go false = refl
 
@@ -57,7 +57,7 @@ module _ (live spare : State) where
   unfolding opening opened_spare
   open_wrong e = rw e (refl, refl)
 
-  pub open_right : both_sized live spare ≡ true → (Come fresh ≡ opening live spare) × (taken spare live ≡ opened_spare live spare)
+  pub open_right : both_sized live spare ≡ true → (Ok fresh ≡ opening live spare) × (taken spare live ≡ opened_spare live spare)
   unfolding opening opened_spare
   open_right e = rw e (refl, refl)
 

@@ -7,7 +7,9 @@ use Rattle.numbers.specs.Answer.{Answers}
 use Rattle.numbers.specs.Settled.{Settles, settled}
 use Rattle.registers.specs.State.{State, st}
 use Rattle.reader.specs.Read.{told_both}
-use Rattle.reader.specs.declared.Reading.{Reading}
+use Rattle.std.specs.Prelude.{Result}
+use Rattle.words.specs.declared.Refusal.{Refusal}
+use Rattle.reader.specs.declared.Counts.{Counts}
 use Rattle.reader.proofs.Once.{both_one}
 use Rattle.parts.specs.Progress.{fresh}
 use Rattle.pieces.specs.Pieces.{opening, opened_spare, feeding, fed_spare, close_answers, close_progress, closed_live, closed_spare}
@@ -41,7 +43,7 @@ feed_settled κs a =
     settled _ _ (λ r. r) (λ r r' e. e) (feeding a.0 spare l) (fed_spare a.0 spare l) (λ r e p. (p.0, p.1.0))
 
 -- a close is its verdict and its progress
-made : Reading → Progress → Closed
+made : Result Counts Refusal → Progress → Closed
 made v p = record { verdict = v; progress = p }
 
 closed_one : (r q : Closed) → r.verdict ≡ q.verdict → r.progress ≡ q.progress → r ≡ q

@@ -1,7 +1,7 @@
 -- A reader that is opened, fed parts and closed: what each call answers, the progress, which is the reader's memory, and what it leaves of
 -- the two states. A buffer of wrong length is refusal 6 at any of the three and changes nothing; a refused opening or feeding hands back no
 -- progress, so that the caller's stays.
-use Rattle.std.specs.Prelude.{Bool, ◌&&◌, List, ℕ}
+use Rattle.std.specs.Prelude.{Bool, ◌&&◌, List, ℕ, Result, Ok, Err}
 use Rattle.numbers.specs.Pick.{pick}
 use Rattle.numbers.specs.Answer.{Answer, answered, refused, Answers, besides}
 use Rattle.registers.specs.State.{State, sized}
@@ -10,23 +10,24 @@ use Rattle.copies.specs.Copy.{taken}
 use Rattle.reader.specs.Read.{if_answered}
 use Rattle.parts.specs.Progress.{fresh, after, made, held_at, counted, onward, closing}
 use Rattle.parts.specs.declared.Progress.{Progress}
-use Rattle.pieces.specs.declared.Going.{Going}
-use Rattle.pieces.specs.declared.Going.TheVariants.{Come, Refused}
+use Rattle.words.specs.Reasons.{number_of}
+use Rattle.words.specs.declared.Reason.TheVariants.{BufferLength}
+use Rattle.words.specs.declared.Refusal.{Refusal}
 
 -- the document's number and values for each case: how many words have come, or the refusal
-abbrev pub told : Going → Answer
-told (Come p) = answered p.come
-told (Refused r) = refused r.number r.place
+abbrev pub told : Result Progress Refusal → Answer
+told (Ok p) = answered p.come
+told (Err r) = refused (number_of r.reason) r.place
 
-abbrev pub wrong_length : Going
-wrong_length = Refused (record { number = 6; place = 0 })
+abbrev pub wrong_length : Result Progress Refusal
+wrong_length = Err (record { reason = BufferLength; place = 0 })
 
 abbrev pub both_sized : State → State → Bool
 both_sized live spare = sized live && sized spare
 
 -- OPENING: a fresh progress, and the spare state takes the live one's held bits and entries
-unfoldable pub opening : State → State → Going
-opening live spare = pick (both_sized live spare) (Come fresh) wrong_length
+unfoldable pub opening : State → State → Result Progress Refusal
+opening live spare = pick (both_sized live spare) (Ok fresh) wrong_length
 
 -- which tells 0
 unfoldable pub open_answer : State → State → Answer
@@ -39,8 +40,8 @@ opened_spare live spare = pick (both_sized live spare) (taken spare live) spare
 abbrev pub fed : Progress → State → List ℕ → Progress
 fed p spare part = counted (onward p spare part)
 
-unfoldable pub feeding : Progress → State → List ℕ → Going
-feeding p spare part = pick (sized spare) (Come (fed p spare part)) wrong_length
+unfoldable pub feeding : Progress → State → List ℕ → Result Progress Refusal
+feeding p spare part = pick (sized spare) (Ok (fed p spare part)) wrong_length
 
 -- which tells how many words have come, held at 65,537
 unfoldable pub feed_answer : Progress → State → List ℕ → Answer

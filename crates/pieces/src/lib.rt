@@ -4,7 +4,9 @@
 
 ghost use Rattle.std.specs.Prelude.{◌≡◌};
 ghost use Rattle.numbers.specs.Answer.{neither};
-ghost use Rattle.registers.specs.State.{st};
+ghost use Rattle.registers.specs.State.{st, Lengths};
+ghost use Rattle.copies.specs.Copy.{taken};
+ghost use Rattle.words.specs.Reasons.{number_of};
 ghost use Rattle.reader.specs.Read.{told, told_both};
 ghost use Rattle.parts.specs.Progress.{fresh, counted, judged_so_far, closing, fault_number};
 ghost use Rattle.pieces.specs.Pieces as going;
@@ -12,34 +14,39 @@ ghost use Rattle.pieces.specs.Pieces.{opening, open_answer, opened_spare, feedin
 ghost use Rattle.pieces.specs.Pieces.{close_answers, close_progress, closed_live, closed_spare};
 
 use parts::Progress;
-use reader::{Counts, ListVerdict, Reading};
-use words::Refusal;
+use reader::Counts;
+use registers::lent::Lent;
+use words::{Reason, Refusal};
 
 // A reading of which no word has come.
 pub fn fresh_progress() -> Progress
     ensures { result ≡ fresh }
 {
-    Progress {
-        come: 0,
-        place: 0,
-        begun: 0,
-        first: 0,
-        id: 0,
-        mask: 0,
-        step: 0,
-        left: 0,
-        pad: 0,
-        writes: 0,
-        fault: 0,
-        differences: 0,
-    }
+    Progress::default()
 }
 
-// How many words have come, with the progress to go on from; or a refusal.
-#[derive(Clone, Copy)]
-pub enum Going {
-    Come(Progress),
-    Refused(Refusal),
+// The held bits and the entries of one state go to another, both in buffers of a state's lengths.
+fn take_state(
+    cells: &mut [u32],
+    fog: &mut [u32],
+    light: &mut [u32],
+    from_cells: &[u32],
+    from_fog: &[u32],
+    from_light: &[u32],
+)
+    requires lengths { Lengths cells.old fog.old light.old }
+    requires from_lengths { Lengths from_cells.now from_fog.now from_light.now }
+    ensures { st cells.new fog.new light.new
+        ≡ taken (st cells.old fog.old light.old)
+        (st from_cells.now from_fog.now from_light.now) }
+{
+    let cells = cells.first_chunk_mut::<768>().unwrap();
+    let fog = fog.first_chunk_mut::<128>().unwrap();
+    let light = light.first_chunk_mut::<6144>().unwrap();
+    let from_cells = from_cells.first_chunk::<768>().unwrap();
+    let from_fog = from_fog.first_chunk::<128>().unwrap();
+    let from_light = from_light.first_chunk::<6144>().unwrap();
+    copies::take_state(cells, fog, light, from_cells, from_fog, from_light);
 }
 
 // A reading is opened: the spare state takes the held bits and entries of the live one; or 6, and nothing changes.
@@ -50,7 +57,7 @@ pub fn open(
     spare_cells: &mut [u32],
     spare_fog: &mut [u32],
     spare_light: &mut [u32],
-) -> Going
+) -> Result<Progress, Refusal>
     ensures answer { result
         ≡ opening (st cells.now fog.now light.now)
         (st spare_cells.old spare_fog.old spare_light.old) }
@@ -62,31 +69,29 @@ pub fn open(
         (st spare_cells.old spare_fog.old spare_light.old) }
 {
     if !registers::is_sized(cells, fog, light) {
-        return Going::Refused(Refusal {
-            number: words::BUFFER_LENGTH,
+        return Err(Refusal {
+            reason: Reason::BufferLength,
             place: 0,
         });
     }
     if !registers::is_sized(spare_cells, spare_fog, spare_light) {
-        return Going::Refused(Refusal {
-            number: words::BUFFER_LENGTH,
+        return Err(Refusal {
+            reason: Reason::BufferLength,
             place: 0,
         });
     }
-    copies::take_state(spare_cells, spare_fog, spare_light, cells, fog, light);
-    Going::Come(fresh_progress())
+    take_state(spare_cells, spare_fog, spare_light, cells, fog, light);
+    Ok(fresh_progress())
 }
 
 // The count is held at 65,537.
 fn held_count(p: Progress) -> Progress
     ensures { result ≡ counted p }
 {
-    if 65536 < p.come {
-        let mut q = p;
-        q.come = 65537;
-        return q;
+    Progress {
+        come: p.come.min(65537),
+        ..p
     }
-    p
 }
 
 // A part of the list is fed: how many words have come, with the progress to go on from; or 6, and nothing changes.
@@ -96,66 +101,68 @@ pub fn feed(
     fog: &mut [u32],
     light: &mut [u32],
     part: &[u32],
-) -> Going
+) -> Result<Progress, Refusal>
     ensures answer { result ≡ feeding p (st cells.old fog.old light.old) part.now }
     ensures state { st cells.new fog.new light.new
         ≡ fed_spare p (st cells.old fog.old light.old) part.now }
     ensures numbers { going.told result ≡ feed_answer p (st cells.old fog.old light.old) part.now }
 {
     if !registers::is_sized(cells, fog, light) {
-        return Going::Refused(Refusal {
-            number: words::BUFFER_LENGTH,
+        return Err(Refusal {
+            reason: Reason::BufferLength,
             place: 0,
         });
     }
-    Going::Come(held_count(parts::take_part(p, cells, fog, light, part)))
+    let cells = cells.first_chunk_mut::<768>().unwrap();
+    let fog = fog.first_chunk_mut::<128>().unwrap();
+    let light = light.first_chunk_mut::<6144>().unwrap();
+    let mut state = Lent { cells, fog, light };
+    Ok(held_count(parts::take_part(p, &mut state, part)))
 }
 
-// The number that a fault is refused by, also where a progress that no call made has another.
-fn fault_number(fault: u32) -> u32
-    ensures { result ≡ fault_number fault }
+// The reason of a fault, also where a progress that no call made has another number.
+fn fault_of(fault: u32) -> Reason
+    ensures { number_of result ≡ fault_number fault }
 {
-    if fault == words::ID_ABOVE_2FF {
-        return words::ID_ABOVE_2FF;
+    match fault {
+        3 => Reason::IdAbove2ff,
+        4 => Reason::JumpRegister,
+        _ => Reason::PortMask,
     }
-    if fault == words::JUMP_REGISTER {
-        return words::JUMP_REGISTER;
-    }
-    words::PORT_MASK
 }
 
 // What the commands so far say, were the list to end here.
-fn judged_so_far(p: Progress) -> ListVerdict
+fn judged_so_far(p: Progress) -> Result<usize, Refusal>
     ensures { told result ≡ judged_so_far p }
 {
     if (p.left == 0) & (p.pad == 0) & (p.begun == 0) {
         if p.fault != 0 {
-            return ListVerdict::Refused(Refusal {
-                number: fault_number(p.fault),
+            return Err(Refusal {
+                reason: fault_of(p.fault),
                 place: p.place as usize,
             });
         }
-        return ListVerdict::Accepted(p.writes as usize);
+        return Ok(p.writes as usize);
     }
-    ListVerdict::Refused(Refusal {
-        number: words::WORDS_MISSING,
+    Err(Refusal {
+        reason: Reason::WordsMissing,
         place: p.place as usize,
     })
 }
 
 // The verdict that a progress leads to: 1, then 15, then what the commands say.
-fn verdict_so_far(p: Progress) -> ListVerdict
+fn verdict_so_far(p: Progress) -> Result<usize, Refusal>
     ensures { told result ≡ closing p }
 {
     if 65536 < p.come {
-        return ListVerdict::Refused(Refusal {
-            number: words::LIST_TOO_LONG,
+        return Err(Refusal {
+            reason: Reason::ListTooLong,
             place: 0,
         });
     }
     if p.come % 4 != 0 {
-        return ListVerdict::Refused(Refusal {
-            number: words::ILLEGAL_LENGTH,
+        return Err(Refusal {
+            reason: Reason::IllegalLength,
             place: 0,
         });
     }
@@ -164,9 +171,9 @@ fn verdict_so_far(p: Progress) -> ListVerdict
 
 // What a close tells: the number of writes in the expansion and how many of them made a difference, or a refusal; and the progress to go on
 // from, which is fresh after any verdict but 6.
-#[derive(Clone, Copy)]
+#[derive(Clone, Copy, Debug, PartialEq, Eq)]
 pub struct Closed {
-    pub verdict: Reading,
+    pub verdict: Result<Counts, Refusal>,
     pub progress: Progress,
 }
 
@@ -175,8 +182,8 @@ fn wrong_length(p: Progress) -> Closed
     ensures progress { result.progress ≡ p }
 {
     Closed {
-        verdict: Reading::Refused(Refusal {
-            number: words::BUFFER_LENGTH,
+        verdict: Err(Refusal {
+            reason: Reason::BufferLength,
             place: 0,
         }),
         progress: p,
@@ -215,16 +222,16 @@ pub fn close(
     }
     let progress = fresh_progress();
     match verdict_so_far(p) {
-        ListVerdict::Refused(why) => {
-            copies::take_state(spare_cells, spare_fog, spare_light, cells, fog, light);
-            let verdict = Reading::Refused(why);
+        Err(why) => {
+            take_state(spare_cells, spare_fog, spare_light, cells, fog, light);
+            let verdict = Err(why);
             Closed { verdict, progress }
         }
-        ListVerdict::Accepted(writes) => {
-            copies::take_state(cells, fog, light, spare_cells, spare_fog, spare_light);
+        Ok(writes) => {
+            take_state(cells, fog, light, spare_cells, spare_fog, spare_light);
             let differences = p.differences;
             Closed {
-                verdict: Reading::Accepted(Counts {
+                verdict: Ok(Counts {
                     writes,
                     differences,
                 }),

@@ -1,7 +1,7 @@
 -- The ends of a run of writes that one command could carry, and what the choice asks of them. Assumes nothing.
 use mathlib.Core.Path.{◌≡◌, refl, sym, ◌∙◌}
 use mathlib.Core.Bool.{Bool, true, false}
-use mathlib.Core.List.{List}
+use mathlib.Core.List.{List, [], ◌∷◌}
 use Prim.Native.Nat.{ℕ, zero, suc, ◌+◌, ◌*◌, ◌-◌, ◌≤◌, ◌<◌, min, max}
 use native.Mathlib.Omega.{arith}
 use lib.Dec.{ltb}
@@ -10,12 +10,11 @@ use lib.Seq.{drop-drop}
 use borrow.Author.Tests.{ltb-true, ltb-false}
 use Rattle.numbers.specs.Pick.{pick}
 use Rattle.words.specs.Writes.{Write}
-use Rattle.cuts.specs.Cuts.{least}
-use Rattle.cuts.proofs.Least.{least_short, least_falls}
+use Rattle.cuts.specs.Cuts.{Spans, least, sizes}
+use Rattle.cuts.proofs.Least.{least_low, least_short, least_falls, sizes_cut, sizes_least}
 use Rattle.runs.specs.Span.{chain, span}
 use Rattle.runs.proofs.Chain.{spans, chain_fits}
 use Rattle.planning.specs.Plan.{words_by, Near, Longest, PlannedFrom}
-use Rattle.planning.proofs.ByEnds.{least_rises}
 use Rattle.planning.proofs.Links.{span_run}
 
 -- THE RUN from write i on that one command could carry, were it not for the limit of 256: its step, its writes, and the words of what is
@@ -50,6 +49,12 @@ module _ (ws : List Write) (m j was run last before need after r x y : ℕ) (g :
 
   pub ends_more : Ending x y
   ends_more = rw (ex, ey) (by_length (ltb 2 r) refl)
+
+-- one write more takes at most two words more: a command of its own
+pub least_rises : {A : Type 0} {span : List A → ℕ} (s : Spans span) (l : List A) → 1 ≤ length l → least span l ≤ least span (drop 1 l) + 2
+least_rises s [] h = absurd (omega arith)
+least_rises {span = span} s (a ∷ l) h =
+    omega (arith, least_low s (a ∷ l) (1 ∷ sizes span l) (omega arith, s.pos a l, sizes_cut s l), sizes_least s l)
 
 -- from write to write the planned words fall, by two at most
 pub plan_near : (ws : List Write) (m j k : ℕ) (t u : List ℕ) → PlannedFrom m ws t u → m ≤ j → j < length ws → k ≡ j + 1

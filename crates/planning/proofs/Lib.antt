@@ -1,5 +1,5 @@
-pub mod ByEnds
 pub mod Links
 pub mod Ends
 pub mod Plans
+pub mod RunWrites
 pub mod Once

@@ -7,7 +7,7 @@ use Rattle.runs.specs.Span.{span}
 use Rattle.planning.specs.declared.Choice.{Choice}
 
 -- THE CODE'S CHOICE where a command can carry n writes, `last` are the words of what is left after them and `before` after n - 1 of them:
--- one fewer where n is even and what is left takes less than two words more with the last of them in it (law `ends_chose`)
+-- one fewer where n is even and what is left takes less than two words more with the last of them in it (contract of `choose`)
 abbrev pub size_by : ℕ → ℕ → ℕ → ℕ
 size_by n last before = pick (eqb (n % 2) 0 && ltb before (last + 2)) (n - 1) n
 

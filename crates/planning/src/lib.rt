@@ -8,11 +8,9 @@ ghost use Rattle.cuts.specs.Cuts.{words};
 ghost use Rattle.runs.specs.PackedList.{writes};
 ghost use Rattle.planning.specs.Plan.{size_by, words_by, Longest, Chose, Planned};
 
-fn wide(x: u16) -> usize
-    ensures { (result ≡ x) × (result < 65536) }
-{
-    x as usize
-}
+mod run;
+
+pub use run::Run;
 
 // The words of a command of k writes.
 pub fn words_of(k: usize) -> usize
@@ -116,8 +114,8 @@ fn choose(least: &[u16], i: usize, run: usize, last: usize, before: usize, words
     ensures { Chose (min 256 run) (drop (i + 1) least.now) result }
 {
     if 256 < run {
-        let fewer = wide(least[i + 255]);
-        let size = size_by(256, wide(least[i + 256]), fewer);
+        let fewer = usize::from(least[i + 255]);
+        let size = size_by(256, usize::from(least[i + 256]), fewer);
         return Choice {
             size,
             words: 256 + fewer,
@@ -135,7 +133,7 @@ pub fn plan_run(ids: &[u32], masks: &[u32], least: &mut [u16], extra: &mut [u8])
     ensures { (vs : List ℕ) → length ids.now ≡ length vs
         → Planned (writes ids.now masks.now vs) result extra.new }
 {
-    let mut i = ids.len();
+    let n = ids.len();
     let mut need = 0;
     let mut after = 0;
     let mut was = 0;
@@ -144,9 +142,8 @@ pub fn plan_run(ids: &[u32], masks: &[u32], least: &mut [u16], extra: &mut [u8])
     let mut before = 0;
     let mut next_id = 0;
     let mut next_mask = 0;
-    least[i] = 0;
-    while 0 < i {
-        i -= 1;
+    least[n] = 0;
+    for i in (0..n).rev() {
         let id = ids[i];
         let mask = masks[i];
         let step = step_to(id, next_id);

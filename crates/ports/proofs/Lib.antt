@@ -1,4 +1,3 @@
-pub mod Named
 pub mod Spread
 pub mod Uploads
 pub mod Once

@@ -7,12 +7,14 @@ use contract.Lifetimes.{Lfts}
 use borrow.Fn.Kinds.{Dens}
 use Rattle.numbers.specs.Settled.{Settles, settled}
 use Rattle.numbers.specs.Bits.{spread, merge}
-use Rattle.ports.specs.Ports.{fog_cells, fog_entries, light_cells, light_entries}
+use Rattle.ports.specs.Ports.{entry, fog_cells, fog_entries, light_cells, light_entries}
 use Rattle.ports.specs.Uploads.{fog_cells_after, fog_uploaded, light_cells_after, light_uploaded}
 use Rattle.ports.proofs.spread_mask.Reads as spread_mask_reads
 use Rattle.ports.proofs.spread_mask.Kinds as spread_mask_kinds
 use Rattle.ports.proofs.merged.Reads as merged_reads
 use Rattle.ports.proofs.merged.Kinds as merged_kinds
+use Rattle.ports.proofs.entered.Reads as entered_reads
+use Rattle.ports.proofs.entered.Kinds as entered_kinds
 use Rattle.ports.proofs.put_fog.Reads as put_fog_reads
 use Rattle.ports.proofs.put_fog.Kinds as put_fog_kinds
 use Rattle.ports.proofs.put_light.Reads as put_light_reads
@@ -27,6 +29,9 @@ spread_mask_settled κs a = settled _ _ (λ r. r) (λ r r' e. e) (spread a.0) tt
 
 pub merged_settled : (κs : Lfts 0) (a : Dens κs merged_kinds.ps) → Settles (λ e. tt {0}) (merged_reads.Post κs a)
 merged_settled κs a = settled _ _ (λ r. r) (λ r r' e. e) (merge a.0 a.1.0 a.1.1.0) tt (λ r e p. (p, refl))
+
+pub entered_settled : (κs : Lfts 0) (a : Dens κs entered_kinds.ps) → Settles (λ e. tt {0}) (entered_reads.Post κs a)
+entered_settled κs a = settled _ _ (λ r. r) (λ r r' e. e) (entry a.0 a.1.0) tt (λ r e p. (p, refl))
 
 -- the cells, and the entries of the port's table
 pub put_fog_settled : (κs : Lfts 2) (a : Dens κs put_fog_kinds.ps)

@@ -2,7 +2,7 @@
 // specs/Ports.antt and specs/Uploads.antt.
 #![tactic(auto)]
 
-ghost use Rattle.std.specs.Prelude.{◌≡◌, ◌+◌, ◌≤◌, ◌<◌, min, length};
+ghost use Rattle.std.specs.Prelude.{◌≡◌, ◌+◌, ◌*◌, ◌/◌, ◌≤◌, ◌<◌, length};
 ghost use Rattle.numbers.specs.Bits.{spread, merge};
 ghost use Rattle.ports.specs.Ports.{entry, named, rise, fog_cells, fog_entries, light_cells, light_entries};
 ghost use Rattle.ports.specs.Uploads.{filled, wrapped, uploaded, risen, fog_cells_after, fog_uploaded, light_cells_after, light_uploaded};
@@ -22,19 +22,21 @@ pub fn merged(e: u32, old: u32, new: u32) -> u32
 }
 
 // An entry with the low 24 bits of v.
-fn entered(old: u32, v: u32) -> u32
+pub fn entered(old: u32, v: u32) -> u32
     ensures { result ≡ entry old v }
 {
     old / 0x1000000 * 0x1000000 + v % 0x1000000
 }
 
-fn risen128(x: u32) -> u32
-    ensures { result ≡ rise 128 x }
+// An index in the low bits of x, of N values, that rises k times.
+fn risen<const N: u32>(x: u32, k: u32) -> u32
+    requires { (0 < N) × (N ≤ 256) × (x / N * N + N ≤ 0x100000000) × (k < 256) }
+    ensures { result ≡ risen N x k }
 {
-    x / 128 * 128 + (x % 128 + 1) % 128
+    x / N * N + (x % N + k) % N
 }
 
-// Whole words: a store of the low byte alone would hold up the next look at the cell.
+// `risen::<256>(x, 1)` in whole words: that becomes a store of the low byte alone, which holds up the next look at the cell.
 fn risen256(x: u32) -> u32
     ensures { result ≡ rise 256 x }
 {
@@ -49,20 +51,18 @@ fn is_named(t: u32) -> bool
 }
 
 // A write to the fog port's data.
-pub fn put_fog(cells: &mut [u32], fog: &mut [u32], value: u32)
-    requires { (length cells.old ≡ 768) × (length fog.old ≡ 128) }
+pub fn put_fog(cells: &mut [u32; 768], fog: &mut [u32; 128], value: u32)
     ensures { (cells.new ≡ fog_cells cells.old)
         × (fog.new ≡ fog_entries cells.old fog.old value) }
 {
     let x = cells[0xE6];
     let i = (x % 128) as usize;
     fog[i] = entered(fog[i], value);
-    cells[0xE6] = risen128(x);
+    cells[0xE6] = risen::<128>(x, 1);
 }
 
 // A write to the light port's data: an unnamed table keeps its entries, and the index rises all the same.
-pub fn put_light(cells: &mut [u32], light: &mut [u32], value: u32)
-    requires { (length cells.old ≡ 768) × (length light.old ≡ 6144) }
+pub fn put_light(cells: &mut [u32; 768], light: &mut [u32; 6144], value: u32)
     ensures { (cells.new ≡ light_cells cells.old)
         × (light.new ≡ light_entries cells.old light.old value) }
 {
@@ -75,22 +75,15 @@ pub fn put_light(cells: &mut [u32], light: &mut [u32], value: u32)
     }
 }
 
-// Words of `list`, n of them from j on, go to the entries from e on.
+// Words of `list`, n of them from j on, go to the entries from e on. By index: after a loop over `iter_mut` and `zip` nothing is known of
+// what it wrote.
 fn fill(entries: &mut [u32], e: usize, list: &[u32], j: usize, n: usize)
     requires { (e + n ≤ length entries.old) × (j + n ≤ length list.now) }
     ensures { entries.new ≡ filled entries.old e list.now j n }
 {
-    let mut k: usize = 0;
-    while k < n {
+    for k in 0..n {
         entries[e + k] = entered(entries[e + k], list[j + k]);
-        k += 1;
     }
-}
-
-fn least(a: usize, b: usize) -> usize
-    ensures { result ≡ min a b }
-{
-    if a < b { a } else { b }
 }
 
 fn wrap(size: usize, i: usize) -> usize
@@ -99,7 +92,8 @@ fn wrap(size: usize, i: usize) -> usize
     if i < size { i } else { 0 }
 }
 
-// `count` words of `list`, from `from` on, go to a port's open table, from its entry `first` on, in stretches that its end cuts.
+// `count` words of `list`, from `from` on, go to a port's open table, from its entry `first` on, in stretches that its end cuts: how long
+// one is tells where the next begins, which no iterator gives.
 fn upload(
     entries: &mut [u32],
     table: usize,
@@ -116,7 +110,7 @@ fn upload(
     let mut j = from;
     let mut left = count;
     while 0 < left {
-        let n = least(left, size - i);
+        let n = left.min(size - i);
         fill(entries, table + i, list, j, n);
         i = wrap(size, i + n);
         j += n;
@@ -124,40 +118,38 @@ fn upload(
     }
 }
 
-fn risen128_by(x: u32, k: u32) -> u32
-    requires { k < 256 }
-    ensures { result ≡ risen 128 x k }
-{
-    x / 128 * 128 + (x % 128 + k) % 128
-}
-
-fn risen256_by(x: u32, k: u32) -> u32
-    requires { k < 256 }
-    ensures { result ≡ risen 256 x k }
-{
-    x / 256 * 256 + (x % 256 + k) % 256
-}
-
 // `count` words of `list`, from `from` on, written to the fog port's data one after another.
-pub fn upload_fog(cells: &mut [u32], fog: &mut [u32], list: &[u32], from: usize, count: u32)
-    requires { (length cells.old ≡ 768) × (length fog.old ≡ 128) × (from + count ≤ length list.now) × (count < 256) }
+pub fn upload_fog(
+    cells: &mut [u32; 768],
+    fog: &mut [u32; 128],
+    list: &[u32],
+    from: usize,
+    count: u32,
+)
+    requires { (from + count ≤ length list.now) × (count < 256) }
     ensures { (cells.new ≡ fog_cells_after cells.old count)
         × (fog.new ≡ fog_uploaded cells.old fog.old list.now from count) }
 {
     let x = cells[0xE6];
     upload(fog, 0, 128, (x % 128) as usize, list, from, count as usize);
-    cells[0xE6] = risen128_by(x, count);
+    cells[0xE6] = risen::<128>(x, count);
 }
 
 // The same for the light port's data: an unnamed table keeps its entries, and the index rises all the same.
-pub fn upload_light(cells: &mut [u32], light: &mut [u32], list: &[u32], from: usize, count: u32)
-    requires { (length cells.old ≡ 768) × (length light.old ≡ 6144) × (from + count ≤ length list.now) × (count < 256) }
+pub fn upload_light(
+    cells: &mut [u32; 768],
+    light: &mut [u32; 6144],
+    list: &[u32],
+    from: usize,
+    count: u32,
+)
+    requires { (from + count ≤ length list.now) × (count < 256) }
     ensures { (cells.new ≡ light_cells_after cells.old count)
         × (light.new ≡ light_uploaded cells.old light.old list.now from count) }
 {
     let x = cells[0x1C5];
     let t = x / 256 % 32;
-    cells[0x1C5] = risen256_by(x, count);
+    cells[0x1C5] = risen::<256>(x, count);
     if is_named(t) {
         upload(
             light,

@@ -7,34 +7,27 @@ use contract.Lifetimes.{Lfts}
 use borrow.Fn.Kinds.{Dens}
 use Rattle.numbers.specs.Settled.{Settles, settled}
 use Rattle.words.proofs.Once.{refusal_one}
+pub use Rattle.words.proofs.Once.{told_one_law}
 use Rattle.registers.specs.State.{st}
 use Rattle.reader.specs.ListVerdict.{verdict}
 use Rattle.reader.specs.Read.{told, told_both, read_answers, read_state}
-use Rattle.reader.specs.declared.ListVerdict.{ListVerdict}
-use Rattle.reader.specs.declared.ListVerdict.TheVariants.{Accepted, Refused}
-use Rattle.reader.specs.declared.Reading.{Reading}
-use Rattle.reader.specs.declared.Reading.TheVariants as reading
+use Rattle.std.specs.Prelude.{Result, Ok, Err}
+use Rattle.words.specs.declared.Refusal.{Refusal}
+use Rattle.reader.specs.declared.Counts.{Counts}
 use Rattle.reader.proofs.judge_list.Reads as judge_list_reads
 use Rattle.reader.proofs.judge_list.Kinds as judge_list_kinds
 use Rattle.reader.proofs.read.Reads as read_reads
 use Rattle.reader.proofs.read.Kinds as read_kinds
 
--- no two verdicts mean the same
-pub told_one_law : (a b : ListVerdict) → told a ≡ told b → a ≡ b
-told_one_law (Accepted n) (Accepted m) e = cc
-told_one_law (Accepted n) (Refused r) e = let z : ◌≡◌ {A = ℕ} 0 1 = cc in absurd (omega arith)
-told_one_law (Refused r) (Accepted m) e = let z : ◌≡◌ {A = ℕ} 0 1 = cc in absurd (omega arith)
-told_one_law (Refused r) (Refused q) e = ap Refused (refusal_one r q (cc) (cc))
-
--- nor do two readings
-pub both_one : (a b : Reading) → told_both a ≡ told_both b → a ≡ b
-both_one (reading.Accepted c) (reading.Accepted d) e =
+-- no two readings mean the same
+pub both_one : (a b : Result Counts Refusal) → told_both a ≡ told_both b → a ≡ b
+both_one (Ok c) (Ok d) e =
     let w : c.writes ≡ d.writes = cc in
     let n : c.differences ≡ d.differences = cc in
-    ap reading.Accepted (rw (w, n))
-both_one (reading.Accepted c) (reading.Refused r) e = let z : ◌≡◌ {A = ℕ} 0 1 = cc in absurd (omega arith)
-both_one (reading.Refused r) (reading.Accepted c) e = let z : ◌≡◌ {A = ℕ} 0 1 = cc in absurd (omega arith)
-both_one (reading.Refused r) (reading.Refused q) e = ap reading.Refused (refusal_one r q (cc) (cc))
+    ap Ok (rw (w, n))
+both_one (Ok c) (Err r) e = let z : ◌≡◌ {A = ℕ} 0 1 = cc in absurd (omega arith)
+both_one (Err r) (Ok c) e = let z : ◌≡◌ {A = ℕ} 0 1 = cc in absurd (omega arith)
+both_one (Err r) (Err q) e = ap Err (refusal_one r q (cc) (cc))
 
 pub judge_list_settled : (κs : Lfts 1) (a : Dens κs judge_list_kinds.ps) → Settles (λ e. tt {0}) (judge_list_reads.Post κs a)
 judge_list_settled κs a = settled _ _ told told_one_law (verdict a.0.now) tt (λ r e p. (p, refl))

@@ -1,26 +1,21 @@
 -- What reading a list into a state answers, and the state that it leaves: 6, then 1, then the verdict, 15 first. Besides the number of
 -- writes in its expansion an accepted list gives how many of them made a difference.
-use Rattle.std.specs.Prelude.{List, ℕ, leb, length}
+use Rattle.std.specs.Prelude.{List, ℕ, leb, length, Result, Ok, Err}
 use Rattle.numbers.specs.Pick.{pick}
 use Rattle.numbers.specs.Answer.{Answer, answered, refused, Answers, both, neither, besides}
 use Rattle.words.specs.Commands.{expansion}
 use Rattle.registers.specs.State.{State, sized}
 use Rattle.registers.specs.Applied.{apply_all, differences}
 use Rattle.reader.specs.ListVerdict.{verdict}
-use Rattle.reader.specs.declared.ListVerdict.{ListVerdict}
-use Rattle.reader.specs.declared.ListVerdict.TheVariants as judged
-use Rattle.reader.specs.declared.Reading.{Reading}
-use Rattle.reader.specs.declared.Reading.TheVariants as reading
+use Rattle.words.specs.Reasons.{number_of}
+pub use Rattle.words.specs.Reasons.{told}
+use Rattle.words.specs.declared.Refusal.{Refusal}
+use Rattle.reader.specs.declared.Counts.{Counts}
 
--- the document's number and values for each case of a verdict on a list alone
-abbrev pub told : ListVerdict → Answer
-told (judged.Accepted n) = answered n
-told (judged.Refused r) = refused r.number r.place
-
--- and of what a reading answers: the number of writes, and how many of them made a difference; or the refusal
-abbrev pub told_both : Reading → Answers
-told_both (reading.Accepted c) = both c.writes c.differences
-told_both (reading.Refused r) = neither r.number r.place
+-- THE NUMBERS of a verdict on a list alone are those of `told`. Of what a reading answers they are the number of writes, and how many of them made a difference; or the refusal
+abbrev pub told_both : Result Counts Refusal → Answers
+told_both (Ok c) = both c.writes c.differences
+told_both (Err r) = neither (number_of r.reason) r.place
 
 -- the number of writes, or the refusal
 unfoldable pub read_answer : State → List ℕ → Answer

@@ -5,32 +5,22 @@
 ghost use Rattle.std.specs.Prelude.{◌≡◌, true, ◌+◌, ◌<◌, ◌≤◌, length};
 ghost use Rattle.numbers.specs.Pick.{pick};
 ghost use Rattle.words.specs.Commands.{all_writes, expansion, well_formed};
-ghost use Rattle.registers.specs.State.{st, Lengths};
+ghost use Rattle.registers.specs.State.{st};
+ghost use Rattle.registers.specs.Lent.{lent, buffers};
 ghost use Rattle.registers.specs.Applied.{apply_all, differences};
 ghost use Rattle.commands.specs.Clear.{last_id, clear};
 ghost use Rattle.reader.specs.ListVerdict.{judged, verdict, all_allowed};
 ghost use Rattle.reader.specs.Read.{told, told_both, read_answers, read_state};
 
-use words::{Head, Refusal};
-
-// On a list alone: the number of writes in its expansion, or the refusal.
-#[derive(Clone, Copy)]
-pub enum ListVerdict {
-    Accepted(usize),
-    Refused(Refusal),
-}
+use registers::held::HeldTable;
+use registers::lent::Lent;
+use words::{Reason, Refusal};
 
 // Of a list that was read: the number of writes in its expansion, and how many of them made a difference.
-#[derive(Clone, Copy)]
+#[derive(Clone, Copy, Debug, PartialEq, Eq)]
 pub struct Counts {
     pub writes: usize,
     pub differences: u32,
-}
-
-#[derive(Clone, Copy)]
-pub enum Reading {
-    Accepted(Counts),
-    Refused(Refusal),
 }
 
 // How many of a command's writes need a look: all of them where one can be at fault, and none else.
@@ -46,31 +36,25 @@ fn deciding(id: u32, mask: u32, count: u32, step: u32) -> u32
 }
 
 // The verdict on a list's commands, whatever its length: in order, each for its words and then for its writes.
-fn judge_commands(list: &[u32]) -> ListVerdict
+fn judge_commands(list: &[u32]) -> Result<usize, Refusal>
     ensures { told result ≡ judged list.now }
 {
     let mut at: usize = 0;
     let mut n: usize = 0;
     'commands: loop {
         if list.len() <= at {
-            break 'commands ListVerdict::Accepted(n);
+            break 'commands Ok(n);
         }
         let head = words::head_at(list, at);
-        let Head::Taken(h) = head else {
-            break 'commands ListVerdict::Refused(words::refusal_in(head));
+        let Ok(h) = head else {
+            break 'commands head.map(|_| n);
         };
         let mut id = h.id;
-        let mut left = deciding(h.id, h.mask, h.count, h.step);
-        while 0 < left {
-            let why = words::fault(id, h.mask);
-            if why != 0 {
-                break 'commands ListVerdict::Refused(Refusal {
-                    number: why,
-                    place: at,
-                });
+        for _ in 0..deciding(h.id, h.mask, h.count, h.step) {
+            if let Some(reason) = words::fault(id, h.mask) {
+                break 'commands Err(Refusal { reason, place: at });
             }
             id += h.step;
-            left -= 1;
         }
         n += commands::added(h.mask, h.count) as usize;
         at += words::words_taken(h);
@@ -78,12 +62,12 @@ fn judge_commands(list: &[u32]) -> ListVerdict
 }
 
 // The verdict on a list of any length, over 65,536 words too: 15 where its words aren't a multiple of 4, else the one on its commands.
-pub fn judge_list(list: &[u32]) -> ListVerdict
+pub fn judge_list(list: &[u32]) -> Result<usize, Refusal>
     ensures { told result ≡ verdict list.now }
 {
     if list.len() % 4 != 0 {
-        return ListVerdict::Refused(Refusal {
-            number: words::ILLEGAL_LENGTH,
+        return Err(Refusal {
+            reason: Reason::IllegalLength,
             place: 0,
         });
     }
@@ -92,21 +76,21 @@ pub fn judge_list(list: &[u32]) -> ListVerdict
 
 // A list's expansion, one masked write after another: how many writes made a difference. The list is well formed and its writes are
 // allowed, so that those of mask 0 change nothing, and are applied like any others: a test for them would cost more.
-fn apply_list(cells: &mut [u32], fog: &mut [u32], light: &mut [u32], list: &[u32]) -> u32
-    requires lengths { Lengths cells.old fog.old light.old × (length list.now ≤ 65536) }
+fn apply_list(state: &mut Lent<'_>, list: &[u32]) -> u32
+    requires lengths { length list.now ≤ 65536 }
     requires list_value { (well_formed list.now ≡ true) × (all_allowed (all_writes list.now) ≡ true) }
-    ensures count { result ≡ differences (st cells.old fog.old light.old) (expansion list.now) }
-    ensures state { st cells.new fog.new light.new
-        ≡ apply_all (st cells.old fog.old light.old) (expansion list.now) }
+    ensures same { buffers state.new ≡ buffers state.old }
+    ensures count { result ≡ differences (lent state.old) (expansion list.now) }
+    ensures state { lent state.new
+        ≡ apply_all (lent state.old) (expansion list.now) }
 {
-    let slots = registers::held::slot_table();
-    let held = registers::held::held_table();
+    let table = HeldTable::new();
     let mut at = 0;
     let mut n: u32 = 0;
     while at < list.len() {
         let h = words::parts(list[at + 1]);
         let taken = words::words_taken(h);
-        n += commands::apply_run(cells, fog, light, &slots, &held, h, list[at], list, at + 2);
+        n += commands::apply_run(state, &table, h, list[at], list, at + 2);
         at += taken;
     }
     n
@@ -114,32 +98,37 @@ fn apply_list(cells: &mut [u32], fog: &mut [u32], light: &mut [u32], list: &[u32
 
 // A list read into a state: the number of writes in its expansion and how many of them made a difference, or a refusal, 6 before 1 before
 // the verdict's, 15 first; a refused list changes nothing.
-pub fn read(cells: &mut [u32], fog: &mut [u32], light: &mut [u32], list: &[u32]) -> Reading
+pub fn read(
+    cells: &mut [u32],
+    fog: &mut [u32],
+    light: &mut [u32],
+    list: &[u32],
+) -> Result<Counts, Refusal>
     ensures answer { told_both result ≡ read_answers (st cells.old fog.old light.old) list.now }
     ensures state { st cells.new fog.new light.new
         ≡ read_state (st cells.old fog.old light.old) list.now }
 {
     if !registers::is_sized(cells, fog, light) {
-        return Reading::Refused(Refusal {
-            number: words::BUFFER_LENGTH,
+        return Err(Refusal {
+            reason: Reason::BufferLength,
             place: 0,
         });
     }
     let too_long = 65536 < list.len();
     if too_long {
-        return Reading::Refused(Refusal {
-            number: words::LIST_TOO_LONG,
+        return Err(Refusal {
+            reason: Reason::ListTooLong,
             place: 0,
         });
     }
-    match judge_list(list) {
-        ListVerdict::Refused(why) => Reading::Refused(why),
-        ListVerdict::Accepted(writes) => {
-            let differences = apply_list(cells, fog, light, list);
-            Reading::Accepted(Counts {
-                writes,
-                differences,
-            })
-        }
-    }
+    let writes = judge_list(list)?;
+    let cells = cells.first_chunk_mut::<768>().unwrap();
+    let fog = fog.first_chunk_mut::<128>().unwrap();
+    let light = light.first_chunk_mut::<6144>().unwrap();
+    let mut state = Lent { cells, fog, light };
+    let differences = apply_list(&mut state, list);
+    Ok(Counts {
+        writes,
+        differences,
+    })
 }

@@ -5,3 +5,5 @@ pub mod Single
 pub mod Laws
 pub mod Differences
 pub mod Once
+pub mod Words
+pub mod Whole

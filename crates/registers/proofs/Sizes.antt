@@ -1,11 +1,10 @@
--- A state that passes the test of its lengths has them. Assumes nothing.
-use mathlib.Core.Path.{◌≡◌}
-use mathlib.Core.Bool.{true, ◌&&◌}
-use lib.Dec.{eqb}
-use lib.ListN.{length}
-use borrow.Author.Tests.{eqb-true}
+-- A state that passes the test of its lengths has them, and its buffers, taken as arrays of these lengths, are what they were and go back
+-- whole. Assumes nothing.
+use Rattle.std.proofs.Common.{◌≡◌, ℕ, true, ◌&&◌, List, ◌++◌, eqb, length, drop, refl, ◌∙◌, eqb-true, append-nil, take_all, arith}
+use Rattle.std.proofs.lemmas.List.{drop_all}
+use Rattle.std.specs.Array.{IsFirstChunk}
 use Rattle.numbers.proofs.Tests.{and_true}
-use Rattle.registers.specs.State.{State, sized, Lengths}
+use Rattle.registers.specs.State.{State, st, sized, Lengths}
 
 pub lengths : (s : State) → sized s ≡ true → Lengths s.cells s.fog s.light
 lengths s e =
@@ -14,3 +13,17 @@ lengths s e =
     let p = and_true (c && f) (eqb (length s.light) 6144) e in
     let q = and_true c f p.0 in
     (eqb-true (length s.cells) 768 q.0, eqb-true (length s.fog) 128 q.1, eqb-true (length s.light) 6144 p.1)
+
+-- a buffer of n words, and the array of n words that was taken of it
+module _ (n : ℕ) (words : List ℕ) (long : length words ≡ n) where
+  pub taken_whole : (array : List ℕ) → IsFirstChunk words array n → array ≡ words
+  taken_whole array f = f.same ∙ take_all n words (omega (arith, long))
+
+  pub given_back : (array : List ℕ) → array ++ drop n words ≡ array
+  given_back array = rw (drop_all n words (omega (arith, long))) (append-nil array)
+
+-- what is then in the three buffers is what is in the arrays
+pub all_back : (s : State) (c f l : List ℕ) (t : State) → Lengths s.cells s.fog s.light → c ≡ t.cells → f ≡ t.fog → l ≡ t.light
+    → st (c ++ drop 768 s.cells) (f ++ drop 128 s.fog) (l ++ drop 6144 s.light) ≡ t
+all_back s c f l t n p q r =
+    rw (given_back 768 s.cells n.0 c, given_back 128 s.fog n.1 f, given_back 6144 s.light n.2 l, p, q, r) refl

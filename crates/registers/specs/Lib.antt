@@ -3,3 +3,4 @@ pub mod Held
 pub mod Tables
 pub mod Applied
 pub mod Single
+pub mod Lent

@@ -1,17 +1,17 @@
 -- One write alone, on a state: refusals 6, 9, 3, 4, 5 in this order, place 0; a refusal changes nothing.
-use Rattle.std.specs.Prelude.{ℕ, zero, suc, ltb}
+use Rattle.std.specs.Prelude.{Bool, ℕ, zero, suc, ltb, Result, Ok, Err}
 use Rattle.numbers.specs.Pick.{pick}
 use Rattle.numbers.specs.Answer.{Answer, answered, refused, unless_fault}
 use Rattle.words.specs.Writes.{Write, fault_of}
 use Rattle.registers.specs.State.{State, sized}
 use Rattle.registers.specs.Applied.{apply, difference}
-use Rattle.registers.specs.declared.Written.{Written}
-use Rattle.registers.specs.declared.Written.TheVariants.{Done, Refused}
+use Rattle.words.specs.Reasons.{number_of}
+use Rattle.words.specs.declared.Refusal.{Refusal}
 
 -- the document's number and place for each refusal; a write that is done gives 1 where it made a difference, else 0
-abbrev pub told : Written → Answer
-told (Done d) = answered (pick d 1 0)
-told (Refused r) = refused r.number r.place
+abbrev pub told : Result Bool Refusal → Answer
+told (Ok d) = answered (pick d 1 0)
+told (Err r) = refused (number_of r.reason) r.place
 
 -- the number of its refusal, 0 for none
 unfoldable pub refusal_of : State → Write → ℕ

@@ -1,5 +1,5 @@
 -- A state: three lent buffers of 32-bit words.
-use Rattle.std.specs.Prelude.{◌≡◌, Bool, ◌&&◌, List, ℕ, eqb, length}
+use Rattle.std.specs.Prelude.{◌≡◌, Bool, ◌&&◌, List, ℕ, ◌<◌, eqb, length, get_or}
 
 pub record State : Type 0 where
   pub cells : List ℕ
@@ -16,3 +16,11 @@ sized s = eqb (length s.cells) 768 && eqb (length s.fog) 128 && eqb (length s.li
 -- the same of three buffers: what is asked of those that a state is lent in
 abbrev pub Lengths : List ℕ → List ℕ → List ℕ → Type 0
 Lengths c f l = (length c ≡ 768) × (length f ≡ 128) × (length l ≡ 6144)
+
+-- 32-bit words
+abbrev pub Words : List ℕ → Type 0
+Words l = (i : ℕ) → get_or l i 0 < 0x100000000
+
+-- what is so of every state that is lent: these lengths, and cells of 32 bits
+abbrev pub Whole : List ℕ → List ℕ → List ℕ → Type 0
+Whole c f l = Lengths c f l × Words c

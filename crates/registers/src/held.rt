@@ -1,7 +1,8 @@
 // The held registers as constant tables: 66 rows of an id and its held-bit word, in the order of the document's table, and for each low
 // byte of an id the row to look at.
-ghost use Rattle.std.specs.Prelude.{◌≡◌};
-ghost use Rattle.registers.specs.Tables.{held_table, slot_table};
+ghost use Rattle.std.specs.Prelude.{◌≡◌, ◌≢◌, MatchOption};
+ghost use Rattle.registers.specs.Held.{bits_of};
+ghost use Rattle.registers.specs.Tables.{held_table, slot_table, LookupTables};
 
 // A row: the id, and the bits that it holds.
 const HELD: [u32; 132] = [
@@ -34,7 +35,7 @@ const SLOTS: [u8; 256] = [
     56, 57, 58, 59, 60, 1, 0, 1, 61, 62, 63, 64, 65, 12, 0, 1,
 ];
 
-// The tables as values, made once by an entry point and lent down to each look-up: a constant array is written anew wherever it is indexed.
+// The tables as values.
 pub fn held_table() -> [u32; 132]
     ensures { result ≡ held_table }
 {
@@ -45,4 +46,40 @@ pub fn slot_table() -> [u8; 256]
     ensures { result ≡ slot_table }
 {
     SLOTS
+}
+
+// Both tables, made once by an entry point and lent down to each look-up: a constant array is written anew wherever it is indexed.
+#[derive(Clone, Copy)]
+pub struct HeldTable {
+    slots: [u8; 256],
+    rows: [u32; 132],
+    ghost known: { LookupTables slots rows },
+}
+
+impl HeldTable {
+    pub fn new() -> HeldTable {
+        HeldTable {
+            slots: SLOTS,
+            rows: HELD,
+        }
+    }
+
+    // The bits that the register `id` holds, if it is held: those of the one row that can be its own.
+    pub(super) fn row_of(&self, id: u32) -> Option<u32>
+        ensures { MatchOption result (bits_of id ≡ 0) (λ bits. (bits ≡ bits_of id) × (bits ≢ 0)) }
+    {
+        let row = 2 * usize::from(self.slots[(id % 256) as usize]);
+        if self.rows[row] == id {
+            Some(self.rows[row + 1])
+        } else {
+            None
+        }
+    }
+
+    // The bits that the register `id` holds, 0 where it isn't held.
+    pub fn bits_of(&self, id: u32) -> u32
+        ensures { result ≡ bits_of id }
+    {
+        self.row_of(id).unwrap_or(0)
+    }
 }

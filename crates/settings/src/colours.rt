@@ -9,17 +9,19 @@ pub fn word_of(c: Colour) -> u32
     ensures word { result ≡ word_of c }
     ensures back { colour_of result ≡ c }
 {
-    c.red as u32 + c.green as u32 * 0x100 + c.blue as u32 * 0x10000 + c.alpha as u32 * 0x1000000
+    u32::from_le_bytes([c.red, c.green, c.blue, c.alpha])
 }
 
 // The colour that a word is.
+#[tactic(auto, unfolding(crate::specs::Colours::colour_of))]
 pub fn colour_of(x: u32) -> Colour
     ensures { result ≡ colour_of x }
 {
+    let [red, green, blue, alpha] = x.to_le_bytes();
     Colour {
-        red: (x % 256) as u8,
-        green: ((x >> 8) % 256) as u8,
-        blue: ((x >> 16) % 256) as u8,
-        alpha: ((x >> 24) % 256) as u8,
+        red,
+        green,
+        blue,
+        alpha,
     }
 }

@@ -10,8 +10,8 @@ use crate::records::{
 };
 
 // 100-103.
-fn read_blending(cells: &[u32]) -> Blending
-    requires { length cells.now ≡ 768 }
+#[tactic(auto, unfolding(crate::specs::Colours::colour_of))]
+fn read_blending(cells: &[u32; 768]) -> Blending
     ensures { result ≡ blending_in (in_cells cells.now) }
 {
     let operation = cells[0x100];
@@ -38,8 +38,7 @@ fn read_blending(cells: &[u32]) -> Blending
 }
 
 // 104-107.
-fn read_tests(cells: &[u32]) -> Tests
-    requires { length cells.now ≡ 768 }
+fn read_tests(cells: &[u32; 768]) -> Tests
     ensures { result ≡ tests_in (in_cells cells.now) }
 {
     let alpha = cells[0x104];
@@ -77,8 +76,7 @@ fn read_tests(cells: &[u32]) -> Tests
 }
 
 // 112-117.
-fn read_buffers(cells: &[u32]) -> Buffers
-    requires { length cells.now ≡ 768 }
+fn read_buffers(cells: &[u32; 768]) -> Buffers
     ensures { result ≡ buffers_in (in_cells cells.now) }
 {
     let reading = cells[0x114];
@@ -103,8 +101,7 @@ fn read_buffers(cells: &[u32]) -> Buffers
     }
 }
 
-pub fn read_framebuffer(cells: &[u32]) -> Framebuffer
-    requires { length cells.now ≡ 768 }
+pub fn read_framebuffer(cells: &[u32; 768]) -> Framebuffer
     ensures { result ≡ framebuffer_in (in_cells cells.now) }
 {
     Framebuffer {

@@ -24,9 +24,9 @@ fn read_light_port(x: u32) -> LightPort
     }
 }
 
-// Every field of the cells, whatever codes they hold. For `decode` alone, which asks for their length and their codes' names first.
-pub fn read_settings(cells: &[u32]) -> Settings
-    requires { length cells.now ≡ 768 }
+// Every field of the cells, whatever codes they hold. For `decode` alone, which asks for their codes' names first.
+#[tactic(auto, unfolding(crate::specs::Settings::settings_in))]
+pub fn read_settings(cells: &[u32; 768]) -> Settings
     ensures { result ≡ settings_in (in_cells cells.now) }
 {
     Settings {

@@ -30,8 +30,7 @@ fn whole(x: u32) -> u32
     x
 }
 
-fn read_viewport(cells: &[u32]) -> Viewport
-    requires { length cells.now ≡ 768 }
+fn read_viewport(cells: &[u32; 768]) -> Viewport
     ensures { result ≡ viewport_in (in_cells cells.now) }
 {
     let width = cells[0x41] % 0x1000000;
@@ -45,8 +44,7 @@ fn read_viewport(cells: &[u32]) -> Viewport
     }
 }
 
-fn read_clip(cells: &[u32]) -> Clip
-    requires { length cells.now ≡ 768 }
+fn read_clip(cells: &[u32; 768]) -> Clip
     ensures { result ≡ clip_in (in_cells cells.now) }
 {
     Clip {
@@ -58,8 +56,7 @@ fn read_clip(cells: &[u32]) -> Clip
     }
 }
 
-fn read_depthmap(cells: &[u32]) -> Depthmap
-    requires { length cells.now ≡ 768 }
+fn read_depthmap(cells: &[u32; 768]) -> Depthmap
     ensures { result ≡ depthmap_in (in_cells cells.now) }
 {
     Depthmap {
@@ -69,8 +66,7 @@ fn read_depthmap(cells: &[u32]) -> Depthmap
     }
 }
 
-fn read_scissor(cells: &[u32]) -> Scissor
-    requires { length cells.now ≡ 768 }
+fn read_scissor(cells: &[u32; 768]) -> Scissor
     ensures { result ≡ scissor_in (in_cells cells.now) }
 {
     let pos = cells[0x66];
@@ -88,8 +84,7 @@ fn read_scissor(cells: &[u32]) -> Scissor
     }
 }
 
-pub fn read_rasteriser(cells: &[u32]) -> Rasteriser
-    requires { length cells.now ≡ 768 }
+pub fn read_rasteriser(cells: &[u32; 768]) -> Rasteriser
     ensures { result ≡ rasteriser_in (in_cells cells.now) }
 {
     Rasteriser {

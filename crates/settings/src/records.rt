@@ -2,14 +2,14 @@
 // A field of eight bits is a u8, any other a u32; the two signed fields of 68 are i32.
 
 // 68, VIEWPORT_XY: signed, -512..511.
-#[derive(Clone, Copy)]
+#[derive(Clone, Copy, Debug, PartialEq, Eq)]
 pub struct Offset {
     pub x: i32,
     pub y: i32,
 }
 
 // 41-44, 68, by 004's names: 001 calls the first two vertical and the next two horizontal.
-#[derive(Clone, Copy)]
+#[derive(Clone, Copy, Debug, PartialEq, Eq)]
 pub struct Viewport {
     pub width: u32,
     pub invw: u32,
@@ -19,7 +19,7 @@ pub struct Viewport {
 }
 
 // 47-4B.
-#[derive(Clone, Copy)]
+#[derive(Clone, Copy, Debug, PartialEq, Eq)]
 pub struct Clip {
     pub enable: u32,
     pub data0: u32,
@@ -29,7 +29,7 @@ pub struct Clip {
 }
 
 // 4D, 4E, 6D.
-#[derive(Clone, Copy)]
+#[derive(Clone, Copy, Debug, PartialEq, Eq)]
 pub struct Depthmap {
     pub scale: u32,
     pub offset: u32,
@@ -37,14 +37,14 @@ pub struct Depthmap {
 }
 
 // 66 and 67, SCISSORTEST_POS and SCISSORTEST_DIM.
-#[derive(Clone, Copy)]
+#[derive(Clone, Copy, Debug, PartialEq, Eq)]
 pub struct Position {
     pub x: u32,
     pub y: u32,
 }
 
 // 65-67.
-#[derive(Clone, Copy)]
+#[derive(Clone, Copy, Debug, PartialEq, Eq)]
 pub struct Scissor {
     pub mode: u32,
     pub pos: Position,
@@ -52,7 +52,7 @@ pub struct Scissor {
 }
 
 // 40-44, 47-4B, 4D, 4E, 65-68, 6D.
-#[derive(Clone, Copy)]
+#[derive(Clone, Copy, Debug, PartialEq, Eq)]
 pub struct Rasteriser {
     pub culling: u32,
     pub viewport: Viewport,
@@ -62,7 +62,7 @@ pub struct Rasteriser {
 }
 
 // A stage's register 0.
-#[derive(Clone, Copy)]
+#[derive(Clone, Copy, Debug, PartialEq, Eq)]
 pub struct Source {
     pub rgb0: u32,
     pub rgb1: u32,
@@ -73,7 +73,7 @@ pub struct Source {
 }
 
 // A stage's register 1.
-#[derive(Clone, Copy)]
+#[derive(Clone, Copy, Debug, PartialEq, Eq)]
 pub struct Operand {
     pub rgb0: u32,
     pub rgb1: u32,
@@ -84,14 +84,14 @@ pub struct Operand {
 }
 
 // A stage's register 2: the combine modes.
-#[derive(Clone, Copy)]
+#[derive(Clone, Copy, Debug, PartialEq, Eq)]
 pub struct Combiner {
     pub rgb: u32,
     pub alpha: u32,
 }
 
 // A stage's register 3, FD and 103.
-#[derive(Clone, Copy)]
+#[derive(Clone, Copy, Debug, PartialEq, Eq)]
 pub struct Colour {
     pub red: u8,
     pub green: u8,
@@ -100,13 +100,13 @@ pub struct Colour {
 }
 
 // A stage's register 4.
-#[derive(Clone, Copy)]
+#[derive(Clone, Copy, Debug, PartialEq, Eq)]
 pub struct Scale {
     pub rgb: u32,
     pub alpha: u32,
 }
 
-#[derive(Clone, Copy)]
+#[derive(Clone, Copy, Debug, PartialEq, Eq)]
 pub struct Stage {
     pub source: Source,
     pub operand: Operand,
@@ -116,7 +116,7 @@ pub struct Stage {
 }
 
 // C0-C4, C8-CC, D0-D4, D8-DC, F0-F4, F8-FC.
-#[derive(Clone, Copy)]
+#[derive(Clone, Copy, Debug, PartialEq, Eq)]
 pub struct Stages {
     pub stage0: Stage,
     pub stage1: Stage,
@@ -127,7 +127,7 @@ pub struct Stages {
 }
 
 // E0: rgb1 to alpha4 are the buffer inputs of stages 1 to 4.
-#[derive(Clone, Copy)]
+#[derive(Clone, Copy, Debug, PartialEq, Eq)]
 pub struct UpdateBuffer {
     pub fog_mode: u32,
     pub density_source: u32,
@@ -144,7 +144,7 @@ pub struct UpdateBuffer {
 }
 
 // E1.
-#[derive(Clone, Copy)]
+#[derive(Clone, Copy, Debug, PartialEq, Eq)]
 pub struct FogColour {
     pub red: u8,
     pub green: u8,
@@ -152,7 +152,7 @@ pub struct FogColour {
 }
 
 // E0, E1, E6, FD.
-#[derive(Clone, Copy)]
+#[derive(Clone, Copy, Debug, PartialEq, Eq)]
 pub struct BufferFog {
     pub update: UpdateBuffer,
     pub fog_colour: FogColour,
@@ -161,7 +161,7 @@ pub struct BufferFog {
 }
 
 // 100.
-#[derive(Clone, Copy)]
+#[derive(Clone, Copy, Debug, PartialEq, Eq)]
 pub struct ColourOperation {
     pub mode: u32,
     pub blend: u32,
@@ -170,7 +170,7 @@ pub struct ColourOperation {
 }
 
 // 101.
-#[derive(Clone, Copy)]
+#[derive(Clone, Copy, Debug, PartialEq, Eq)]
 pub struct BlendFunction {
     pub rgb_equation: u32,
     pub alpha_equation: u32,
@@ -181,7 +181,7 @@ pub struct BlendFunction {
 }
 
 // 100-103.
-#[derive(Clone, Copy)]
+#[derive(Clone, Copy, Debug, PartialEq, Eq)]
 pub struct Blending {
     pub operation: ColourOperation,
     pub function: BlendFunction,
@@ -190,7 +190,7 @@ pub struct Blending {
 }
 
 // 104.
-#[derive(Clone, Copy)]
+#[derive(Clone, Copy, Debug, PartialEq, Eq)]
 pub struct AlphaTest {
     pub enable: u32,
     pub function: u32,
@@ -198,7 +198,7 @@ pub struct AlphaTest {
 }
 
 // 105.
-#[derive(Clone, Copy)]
+#[derive(Clone, Copy, Debug, PartialEq, Eq)]
 pub struct StencilTest {
     pub enable: u32,
     pub function: u32,
@@ -208,7 +208,7 @@ pub struct StencilTest {
 }
 
 // 106: the operations.
-#[derive(Clone, Copy)]
+#[derive(Clone, Copy, Debug, PartialEq, Eq)]
 pub struct StencilOp {
     pub fail: u32,
     pub z_fail: u32,
@@ -216,7 +216,7 @@ pub struct StencilOp {
 }
 
 // 107: the depth test, and what is written.
-#[derive(Clone, Copy)]
+#[derive(Clone, Copy, Debug, PartialEq, Eq)]
 pub struct DepthColourMask {
     pub enable: u32,
     pub function: u32,
@@ -228,7 +228,7 @@ pub struct DepthColourMask {
 }
 
 // 104-107.
-#[derive(Clone, Copy)]
+#[derive(Clone, Copy, Debug, PartialEq, Eq)]
 pub struct Tests {
     pub alpha: AlphaTest,
     pub stencil: StencilTest,
@@ -237,21 +237,21 @@ pub struct Tests {
 }
 
 // 114, 115.
-#[derive(Clone, Copy)]
+#[derive(Clone, Copy, Debug, PartialEq, Eq)]
 pub struct DepthAllowed {
     pub stencil: u32,
     pub depth: u32,
 }
 
 // 117.
-#[derive(Clone, Copy)]
+#[derive(Clone, Copy, Debug, PartialEq, Eq)]
 pub struct ColourFormat {
     pub size: u32,
     pub format: u32,
 }
 
 // 112-117.
-#[derive(Clone, Copy)]
+#[derive(Clone, Copy, Debug, PartialEq, Eq)]
 pub struct Buffers {
     pub colour_reading: u32,
     pub colour_writing: u32,
@@ -262,7 +262,7 @@ pub struct Buffers {
 }
 
 // 100-107, 112-117.
-#[derive(Clone, Copy)]
+#[derive(Clone, Copy, Debug, PartialEq, Eq)]
 pub struct Framebuffer {
     pub blending: Blending,
     pub tests: Tests,
@@ -270,14 +270,14 @@ pub struct Framebuffer {
 }
 
 // 1C5.
-#[derive(Clone, Copy)]
+#[derive(Clone, Copy, Debug, PartialEq, Eq)]
 pub struct LightPort {
     pub index: u8,
     pub table: u32,
 }
 
 // The whole decoded state: 204 fields.
-#[derive(Clone, Copy)]
+#[derive(Clone, Copy, Debug, PartialEq, Eq)]
 pub struct Settings {
     pub rasteriser: Rasteriser,
     pub stages: Stages,

@@ -9,15 +9,16 @@ use crate::records::{
 };
 
 // The stage whose source register is b.
-fn read_stage(cells: &[u32], b: usize) -> Stage
-    requires { (length cells.now ≡ 768) × (b < 760) }
+#[tactic(auto, unfolding(crate::specs::Colours::colour_of))]
+fn read_stage(cells: &[u32; 768], b: u8) -> Stage
     ensures { result ≡ stage_in (in_cells cells.now) b }
 {
-    let source = cells[b];
-    let operand = cells[b + 1];
-    let combiner = cells[b + 2];
-    let colour = cells[b + 3];
-    let scale = cells[b + 4];
+    let at = b as usize;
+    let source = cells[at];
+    let operand = cells[at + 1];
+    let combiner = cells[at + 2];
+    let colour = cells[at + 3];
+    let scale = cells[at + 4];
     Stage {
         source: Source {
             rgb0: source % 16,
@@ -47,8 +48,7 @@ fn read_stage(cells: &[u32], b: usize) -> Stage
     }
 }
 
-pub fn read_stages(cells: &[u32]) -> Stages
-    requires { length cells.now ≡ 768 }
+pub fn read_stages(cells: &[u32; 768]) -> Stages
     ensures { result ≡ stages_in (in_cells cells.now) }
 {
     Stages {
@@ -62,8 +62,8 @@ pub fn read_stages(cells: &[u32]) -> Stages
 }
 
 // E0, E1, E6, FD.
-pub fn read_buffer_fog(cells: &[u32]) -> BufferFog
-    requires { length cells.now ≡ 768 }
+#[tactic(auto, unfolding(crate::specs::Colours::colour_of))]
+pub fn read_buffer_fog(cells: &[u32; 768]) -> BufferFog
     ensures { result ≡ buffer_fog_in (in_cells cells.now) }
 {
     let update = cells[0xE0];

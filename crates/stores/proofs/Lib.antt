@@ -3,4 +3,3 @@ pub mod Comparisons
 pub mod Widths
 pub mod Kept
 pub mod Determined
-pub mod Orders

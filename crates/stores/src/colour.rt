@@ -10,6 +10,7 @@ use crate::Verdict;
 use settings::colours;
 use settings::records::Colour;
 
+#[tactic(auto, unfolding(crate::specs::Logic::results))]
 fn logic(op: u32, s: u32, d: u32) -> u32
     ensures { result ≡ logical 0xFFFFFFFF op s d }
 {
@@ -36,6 +37,7 @@ fn logic(op: u32, s: u32, d: u32) -> u32
 }
 
 // The four channels at once, as words.
+#[tactic(auto, using(crate::proofs::Channels::logic_channels))]
 fn logic_colour(op: u32, s: Colour, d: Colour) -> Colour
     ensures { result ≡ logical_colour op s d }
 {
@@ -61,9 +63,9 @@ fn colour_under(writing: u32, x: u32, new: Colour, old: Colour) -> Colour
     }
 }
 
-// The colour that a verdict stores, by the registers of the cells. For `fragment`, which has tested their length.
-pub fn colour_after(cells: &[u32], v: Verdict, res: Colour, stored: Colour) -> Colour
-    requires { length cells.now ≡ 768 }
+// The colour that a verdict stores, by the registers of the cells.
+#[tactic(auto, unfolding(crate::specs::Stores::colour_after))]
+pub fn colour_after(cells: &[u32; 768], v: Verdict, res: Colour, stored: Colour) -> Colour
     ensures { result ≡ colour_after (framebuffer_in (in_cells cells.now)) v res stored }
 {
     let op = cells[0x102];

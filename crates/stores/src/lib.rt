@@ -12,15 +12,15 @@ pub mod colour;
 mod stencil;
 mod tests;
 
-#[derive(Clone, Copy)]
+#[derive(Clone, Copy, Debug, PartialEq, Eq)]
 pub enum Verdict {
-    AlphaFails,
-    StencilFails,
-    DepthFails,
-    Passes,
+    AlphaFails = 0,
+    StencilFails = 1,
+    DepthFails = 2,
+    Passes = 3,
 }
 
-#[derive(Clone, Copy)]
+#[derive(Clone, Copy, Debug, PartialEq, Eq)]
 pub struct Stored {
     pub colour: Colour,
     pub stencil: u8,
@@ -28,15 +28,15 @@ pub struct Stored {
 }
 
 // The verdict, and the stencil and depth that are then stored.
-#[derive(Clone, Copy)]
+#[derive(Clone, Copy, Debug, PartialEq, Eq)]
 pub struct Judged {
     pub verdict: Verdict,
     pub stencil: u8,
     pub depth: u32,
 }
 
-fn depth_after(cells: &[u32], v: Verdict, incoming: u32, stored: u32) -> u32
-    requires { length cells.now ≡ 768 }
+#[tactic(auto, unfolding(crate::specs::Stores::depth_after))]
+fn depth_after(cells: &[u32; 768], v: Verdict, incoming: u32, stored: u32) -> u32
     ensures { result ≡ depth_after (framebuffer_in (in_cells cells.now)) v incoming stored }
 {
     let test = cells[0x107];
@@ -56,9 +56,9 @@ fn depth_after(cells: &[u32], v: Verdict, incoming: u32, stored: u32) -> u32
 }
 
 // By the registers of the cells, from the result's alpha, the incoming depth, and the stored stencil and depth; the colour goes by the
-// verdict, `colour::colour_after`. For `fragment`, which has tested the cells' length.
-pub fn judge(cells: &[u32], alpha: u8, incoming: u32, stencil: u8, depth: u32) -> Judged
-    requires { length cells.now ≡ 768 }
+// verdict, `colour::colour_after`.
+#[tactic(auto, unfolding(crate::specs::Stores::judged_of))]
+pub fn judge(cells: &[u32; 768], alpha: u8, incoming: u32, stencil: u8, depth: u32) -> Judged
     ensures { result ≡ judged_of (framebuffer_in (in_cells cells.now)) alpha incoming stencil depth }
 {
     let verdict = tests::find_verdict(cells, alpha, incoming, stencil, depth);

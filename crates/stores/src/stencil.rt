@@ -7,18 +7,6 @@ ghost use Rattle.stores.specs.Stores.{stencil_by, stencil_after};
 
 use crate::{Verdict, tests};
 
-fn up(x: u8) -> u8
-    ensures { result ≡ min (x + 1) 255 }
-{
-    if x < 255 { x + 1 } else { 255 }
-}
-
-fn down(x: u8) -> u8
-    ensures { result ≡ x - 1 }
-{
-    if 0 < x { x - 1 } else { 0 }
-}
-
 fn operate(op: u32, stored: u8, reference: u8) -> u8
     ensures { result ≡ operated op stored reference }
 {
@@ -26,11 +14,11 @@ fn operate(op: u32, stored: u8, reference: u8) -> u8
         stored,
         0,
         reference,
-        up(stored),
-        down(stored),
+        stored.saturating_add(1),
+        stored.saturating_sub(1),
         255 - stored,
-        ((stored as u32 + 1) % 256) as u8,
-        ((stored as u32 + 255) % 256) as u8,
+        stored.wrapping_add(1),
+        stored.wrapping_sub(1),
     ];
     by_code[(op % 8) as usize]
 }
@@ -39,12 +27,10 @@ fn operate(op: u32, stored: u8, reference: u8) -> u8
 fn put_under(mask: u8, stored: u8, new: u8) -> u8
     ensures { result ≡ masked mask stored new }
 {
-    let m = mask as u32;
-    ((stored as u32 & !m) | (new as u32 & m)) as u8
+    (stored & !mask) | (new & mask)
 }
 
-fn stencil_by(cells: &[u32], op: u32, stored: u8) -> u8
-    requires { length cells.now ≡ 768 }
+fn stencil_by(cells: &[u32; 768], op: u32, stored: u8) -> u8
     ensures { result ≡ stencil_by (framebuffer_in (in_cells cells.now)) op stored }
 {
     let test = cells[0x105];
@@ -61,8 +47,8 @@ fn stencil_by(cells: &[u32], op: u32, stored: u8) -> u8
     }
 }
 
-pub fn stencil_after(cells: &[u32], v: Verdict, stored: u8) -> u8
-    requires { length cells.now ≡ 768 }
+#[tactic(auto, unfolding(crate::specs::Stores::stencil_after))]
+pub fn stencil_after(cells: &[u32; 768], v: Verdict, stored: u8) -> u8
     ensures { result ≡ stencil_after (framebuffer_in (in_cells cells.now)) v stored }
 {
     let op = cells[0x106];

@@ -6,15 +6,17 @@ ghost use Rattle.stores.specs.Compare.{compared, order_of};
 ghost use Rattle.stores.specs.Tests.{alpha_passes, stencil_active, stencil_passes, depth_passes, in_order, verdict_of};
 
 use crate::Verdict;
+use std::cmp::Ordering;
 
 // 0 where a is less than b, 1 where they are equal, 2 where a is greater.
 fn order(a: u32, b: u32) -> u32
     ensures { (result ≡ order_of a b) × (result ≤ 2) }
 {
-    if a < b {
-        return 0;
+    match a.cmp(&b) {
+        Ordering::Less => 0,
+        Ordering::Equal => 1,
+        Ordering::Greater => 2,
     }
-    if a == b { 1 } else { 2 }
 }
 
 // Codes 0-7: never, always, equal, unequal, less, at most, greater, at least. The number has four bits for each code, from code 0 up: the
@@ -63,24 +65,26 @@ fn depth_passes(x: u32, incoming: u32, stored: u32) -> bool
 fn in_order(alpha: bool, stencil: bool, depth: bool) -> Verdict
     ensures { result ≡ in_order alpha stencil depth }
 {
-    if alpha {
-        if stencil {
-            if depth {
-                Verdict::Passes
-            } else {
-                Verdict::DepthFails
-            }
-        } else {
-            Verdict::StencilFails
-        }
-    } else {
+    if !alpha {
         Verdict::AlphaFails
+    } else if !stencil {
+        Verdict::StencilFails
+    } else if !depth {
+        Verdict::DepthFails
+    } else {
+        Verdict::Passes
     }
 }
 
 // The result's alpha, the incoming depth, and the stored stencil and depth.
-pub fn find_verdict(cells: &[u32], alpha: u8, incoming: u32, stencil: u8, depth: u32) -> Verdict
-    requires { length cells.now ≡ 768 }
+#[tactic(auto, unfolding(crate::specs::Tests::verdict_of))]
+pub fn find_verdict(
+    cells: &[u32; 768],
+    alpha: u8,
+    incoming: u32,
+    stencil: u8,
+    depth: u32,
+) -> Verdict
     ensures { result ≡ verdict_of (framebuffer_in (in_cells cells.now)) alpha incoming stencil depth }
 {
     let alpha_test = cells[0x104];

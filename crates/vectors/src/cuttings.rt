@@ -4,26 +4,19 @@ use std::io;
 
 // "cut anywhere, zero words too"
 fn cuttings(rt: &HostRuntime) -> io::Result<()> {
-    four::in_parts(rt, b"one part", [2, 0x000F0040, 0, 0], 4, 4, 0x40)?;
+    four::in_parts(rt, "one part", [2, 0x000F0040, 0, 0], 4, 4, 0x40)?;
     four::in_parts(
         rt,
-        b"between first parameter and header",
+        "between first parameter and header",
         [2, 0x000F0040, 0, 0],
         1,
         3,
         0x40,
     )?;
-    four::in_parts(
-        rt,
-        b"parts of zero words",
-        [2, 0x000F0040, 0, 0],
-        0,
-        4,
-        0x40,
-    )?;
+    four::in_parts(rt, "parts of zero words", [2, 0x000F0040, 0, 0], 0, 4, 0x40)?;
     show::cut_twice(
         rt,
-        b"before the padding word",
+        "before the padding word",
         &[1, 0x801F0041, 2, 0],
         3,
         4,
@@ -32,7 +25,7 @@ fn cuttings(rt: &HostRuntime) -> io::Result<()> {
     // E6 is set to 0, and three words go to the port's data
     show::cut_twice(
         rt,
-        b"in a run of port data",
+        "in a run of port data",
         &[0, 0x000F00E6, 1, 0x002F00E8, 2, 3, 0, 0],
         5,
         6,
@@ -44,7 +37,7 @@ fn cuttings(rt: &HostRuntime) -> io::Result<()> {
 fn refusals(rt: &HostRuntime) -> io::Result<()> {
     four::in_parts(
         rt,
-        b"at fault in the second part",
+        "at fault in the second part",
         [2, 0x000F0040, 2, 0x000F0300],
         2,
         4,
@@ -53,7 +46,7 @@ fn refusals(rt: &HostRuntime) -> io::Result<()> {
     // 01, "A command": a command that lacks words is 2, before its writes
     show::cut_twice(
         rt,
-        b"words left out",
+        "words left out",
         &[1, 0x803F0041, 2, 3],
         3,
         4,
@@ -61,7 +54,7 @@ fn refusals(rt: &HostRuntime) -> io::Result<()> {
     )?;
     show::cut_twice(
         rt,
-        b"words missing, a write at fault",
+        "words missing, a write at fault",
         &[1, 0x803F0300, 2, 3],
         1,
         2,
@@ -70,7 +63,7 @@ fn refusals(rt: &HostRuntime) -> io::Result<()> {
     // the first command at fault ends the reading, and its words are counted on
     show::cut_twice(
         rt,
-        b"at fault, and counted on",
+        "at fault, and counted on",
         &[1, 0x000F0300, 2, 0x000F0040, 1, 0x003F0041, 2, 3],
         2,
         4,
@@ -81,7 +74,7 @@ fn refusals(rt: &HostRuntime) -> io::Result<()> {
 // n words, zero but for the first two, cut at two places.
 fn long(
     rt: &HostRuntime,
-    label: &[u8],
+    label: &str,
     begin: [u32; 2],
     n: usize,
     first: usize,
@@ -99,19 +92,19 @@ fn long(
 
 // "The 65,536 limit is on the joined length"; feeding answers are "held at 65,537"
 fn limit(rt: &HostRuntime) -> io::Result<()> {
-    long(rt, b"65,536 words", [0, 0], 65536, 65536, 65536)?;
-    long(rt, b"one word more", [0, 0], 65539, 65536, 65537)?;
-    long(rt, b"a fault before them", [1, 0x000F0300], 65538, 2, 65538)
+    long(rt, "65,536 words", [0, 0], 65536, 65536, 65536)?;
+    long(rt, "one word more", [0, 0], 65539, 65536, 65537)?;
+    long(rt, "a fault before them", [1, 0x000F0300], 65538, 2, 65538)
 }
 
 // 02: "refusal 15, place 0, tested after 1 and before any command, also at the close"
 fn lengths(rt: &HostRuntime) -> io::Result<()> {
-    long(rt, b"two words more", [0, 0], 65538, 65536, 65537)?;
-    long(rt, b"two words less", [1, 0x000F0300], 65534, 2, 65534)
+    long(rt, "two words more", [0, 0], 65538, 65536, 65537)?;
+    long(rt, "two words less", [1, 0x000F0300], 65534, 2, 65534)
 }
 
 pub(crate) fn all(rt: &HostRuntime) -> io::Result<()> {
-    show::group(rt, b"pieces")?;
+    show::group(rt, "pieces")?;
     cuttings(rt)?;
     refusals(rt)?;
     limit(rt)?;

@@ -4,24 +4,19 @@ use crate::show;
 use std::io;
 
 // The answer alone.
-pub(crate) fn judged(rt: &HostRuntime, label: &[u8], list: [u32; 4]) -> io::Result<()> {
+pub(crate) fn judged(rt: &HostRuntime, label: &str, list: [u32; 4]) -> io::Result<()> {
     show::judged(rt, label, &list)
 }
 
 // The answer, and the cell of an id.
-pub(crate) fn cell_after(
-    rt: &HostRuntime,
-    label: &[u8],
-    list: [u32; 4],
-    id: u32,
-) -> io::Result<()> {
+pub(crate) fn cell_after(rt: &HostRuntime, label: &str, list: [u32; 4], id: u32) -> io::Result<()> {
     show::cells_after(rt, label, &list, &[id])
 }
 
 // The answer, the light index, and a light entry.
 pub(crate) fn light_after(
     rt: &HostRuntime,
-    label: &[u8],
+    label: &str,
     list: [u32; 4],
     entry: u32,
 ) -> io::Result<()> {
@@ -29,14 +24,14 @@ pub(crate) fn light_after(
 }
 
 // Both numbers.
-pub(crate) fn counts(rt: &HostRuntime, label: &[u8], list: [u32; 4]) -> io::Result<()> {
+pub(crate) fn counts(rt: &HostRuntime, label: &str, list: [u32; 4]) -> io::Result<()> {
     show::counts_after(rt, label, &[], &list)
 }
 
 // Both numbers of the second of two lists.
 pub(crate) fn counts_after(
     rt: &HostRuntime,
-    label: &[u8],
+    label: &str,
     before: [u32; 4],
     list: [u32; 4],
 ) -> io::Result<()> {
@@ -46,7 +41,7 @@ pub(crate) fn counts_after(
 // What a single write tells after the list.
 pub(crate) fn written_after(
     rt: &HostRuntime,
-    label: &[u8],
+    label: &str,
     before: [u32; 4],
     id: u32,
     mask: u32,
@@ -58,7 +53,7 @@ pub(crate) fn written_after(
 // The list in three parts: to the first cut, on to the second, and the rest; and the cell of an id.
 pub(crate) fn in_parts(
     rt: &HostRuntime,
-    label: &[u8],
+    label: &str,
     list: [u32; 4],
     first: usize,
     second: usize,

@@ -1,22 +1,26 @@
 // Packing: document 01, "Packing", its examples, and lengths around a command's 256 writes; request 3 of document 02, which fills lists
 // and drops writes with mask 0.
 use crate::show;
-use packer::Packed;
 use std::io;
+use words::Refusal;
 
 // The answer, as `label, n writes: N words` or with its refusal.
-fn put_packed(rt: &HostRuntime, label: &[u8], n: usize, answer: Packed) -> io::Result<()> {
+fn put_packed(
+    rt: &HostRuntime,
+    label: &str,
+    n: usize,
+    answer: Result<usize, Refusal>,
+) -> io::Result<()> {
     match answer {
-        Packed::Words(words) => show::words_of(rt, label, n, words)?,
-        Packed::Refused(why) => show::refusal_of(rt, label, n, why)?,
+        Ok(words) => show::words_of(rt, label, n, words),
+        Err(why) => show::refusal_of(rt, label, n, why),
     }
-    Ok(())
 }
 
 // The first n writes, packed into `room` words of the space.
 fn pack_first(
     rt: &HostRuntime,
-    label: &[u8],
+    label: &str,
     n: usize,
     room: usize,
     ids: &[u32],
@@ -45,7 +49,7 @@ fn equal_ids(rt: &HostRuntime, n: usize, room: usize) -> io::Result<()> {
     let mut space = [0u32; 1200];
     pack_first(
         rt,
-        b"equal ids",
+        "equal ids",
         n,
         room,
         &[0x41u32; 600],
@@ -58,10 +62,8 @@ fn equal_ids(rt: &HostRuntime, n: usize, room: usize) -> io::Result<()> {
 // 0, 1, 2, ..
 fn rising() -> [u32; 600] {
     let mut ids = [0u32; 600];
-    let mut i: usize = 0;
-    while i < 600 {
-        ids[i] = i as u32;
-        i += 1;
+    for (n, id) in ids.iter_mut().enumerate() {
+        *id = n as u32;
     }
     ids
 }
@@ -71,7 +73,7 @@ fn rising_ids(rt: &HostRuntime, n: usize) -> io::Result<()> {
     let mut space = [0u32; 1200];
     pack_first(
         rt,
-        b"rising ids",
+        "rising ids",
         n,
         1200,
         &rising(),
@@ -84,7 +86,7 @@ fn rising_ids(rt: &HostRuntime, n: usize) -> io::Result<()> {
 // Packs writes, and shows the words that were put.
 fn pack_shown(
     rt: &HostRuntime,
-    label: &[u8],
+    label: &str,
     ids: &[u32],
     masks: &[u32],
     values: &[u32],
@@ -92,7 +94,7 @@ fn pack_shown(
 ) -> io::Result<()> {
     let answer = packer::pack(ids, masks, values, space);
     put_packed(rt, label, ids.len(), answer)?;
-    let Packed::Words(words) = answer else {
+    let Ok(words) = answer else {
         return Ok(());
     };
     if words == 0 {
@@ -105,7 +107,7 @@ fn pack_shown(
 }
 
 // A few writes of the values 1, 2, 3, ..
-fn masked(rt: &HostRuntime, label: &[u8], ids: &[u32], masks: &[u32]) -> io::Result<()> {
+fn masked(rt: &HostRuntime, label: &str, ids: &[u32], masks: &[u32]) -> io::Result<()> {
     let mut space = [0u32; 16];
     let values: &[u32] = &[1, 2, 3, 4, 5];
     let n = ids.len();
@@ -116,12 +118,12 @@ fn masked(rt: &HostRuntime, label: &[u8], ids: &[u32], masks: &[u32]) -> io::Res
 }
 
 // Two of them.
-fn pair(rt: &HostRuntime, label: &[u8], ids: [u32; 2], masks: [u32; 2]) -> io::Result<()> {
+fn pair(rt: &HostRuntime, label: &str, ids: [u32; 2], masks: [u32; 2]) -> io::Result<()> {
     masked(rt, label, &ids, &masks)
 }
 
 // All with the mask 15.
-fn run(rt: &HostRuntime, label: &[u8], ids: &[u32]) -> io::Result<()> {
+fn run(rt: &HostRuntime, label: &str, ids: &[u32]) -> io::Result<()> {
     let masks: &[u32] = &[15u32; 8];
     let n = ids.len();
     if n <= masks.len() {
@@ -131,7 +133,7 @@ fn run(rt: &HostRuntime, label: &[u8], ids: &[u32]) -> io::Result<()> {
 }
 
 // Writes with the mask 15, and values of their own.
-fn valued(rt: &HostRuntime, label: &[u8], ids: &[u32], values: &[u32]) -> io::Result<()> {
+fn valued(rt: &HostRuntime, label: &str, ids: &[u32], values: &[u32]) -> io::Result<()> {
     let mut space = [0u32; 16];
     let masks: &[u32] = &[15u32; 8];
     let n = ids.len();
@@ -143,48 +145,48 @@ fn valued(rt: &HostRuntime, label: &[u8], ids: &[u32], values: &[u32]) -> io::Re
 
 fn runs(rt: &HostRuntime) -> io::Result<()> {
     // 01's two examples, and "Taking the longest run first: 8 words where 6 do"; 02: "The six-word examples gain the pair `0 0`"
-    run(rt, b"41 41 42 43", &[0x41, 0x41, 0x42, 0x43])?;
-    run(rt, b"41 41 42", &[0x41, 0x41, 0x42])?;
-    run(rt, b"41 42 43 43 43", &[0x41, 0x42, 0x43, 0x43, 0x43])
+    run(rt, "41 41 42 43", &[0x41, 0x41, 0x42, 0x43])?;
+    run(rt, "41 41 42", &[0x41, 0x41, 0x42])?;
+    run(rt, "41 42 43 43 43", &[0x41, 0x42, 0x43, 0x43, 0x43])
 }
 
 fn short_runs(rt: &HostRuntime) -> io::Result<()> {
-    run(rt, b"no write", &[0; 0])?;
-    valued(rt, b"a lone write", &[0x107], &[0x1F71])?;
+    run(rt, "no write", &[0; 0])?;
+    valued(rt, "a lone write", &[0x107], &[0x1F71])?;
     // refused: 3 at its index, and lengths that differ
-    run(rt, b"41 300", &[0x41, 0x300])?;
-    valued(rt, b"two ids, one value", &[0x41, 0x42], &[1])
+    run(rt, "41 300", &[0x41, 0x300])?;
+    valued(rt, "two ids, one value", &[0x41, 0x42], &[1])
 }
 
 // 02: "Writes with mask 0 are still checked, but no longer belong to an expansion: the packer drops them"
 fn dropped(rt: &HostRuntime) -> io::Result<()> {
     masked(
         rt,
-        b"41, then 99 with mask 0, then 42",
+        "41, then 99 with mask 0, then 42",
         &[0x41, 0x99, 0x42],
         &[15, 0, 15],
     )?;
     masked(
         rt,
-        b"99 with mask 0 before 41, between and after",
+        "99 with mask 0 before 41, between and after",
         &[0x99, 0x41, 0x99, 0x41, 0x99],
         &[0, 15, 0, 15, 0],
     )?;
     masked(
         rt,
-        b"41, 42 and 43, 42 with mask 0",
+        "41, 42 and 43, 42 with mask 0",
         &[0x41, 0x42, 0x43],
         &[15, 0, 15],
     )?;
-    pair(rt, b"mask 0 alone", [0x41, 0x42], [0, 0])
+    pair(rt, "mask 0 alone", [0x41, 0x42], [0, 0])
 }
 
 // "still checked", and "the index in a packer's refusal .. still count every write given"
 fn still_checked(rt: &HostRuntime) -> io::Result<()> {
-    pair(rt, b"mask 0, and then 300", [0x41, 0x300], [0, 15])?;
-    pair(rt, b"300 with mask 0", [0x41, 0x300], [15, 0])?;
-    pair(rt, b"23C with mask 0", [0x41, 0x23C], [15, 0])?;
-    pair(rt, b"port data with mask 0", [0x41, 0xE8], [15, 0])
+    pair(rt, "mask 0, and then 300", [0x41, 0x300], [0, 15])?;
+    pair(rt, "300 with mask 0", [0x41, 0x300], [15, 0])?;
+    pair(rt, "23C with mask 0", [0x41, 0x23C], [15, 0])?;
+    pair(rt, "port data with mask 0", [0x41, 0xE8], [15, 0])
 }
 
 fn equal_lengths(rt: &HostRuntime) -> io::Result<()> {
@@ -216,7 +218,7 @@ fn rising_lengths(rt: &HostRuntime) -> io::Result<()> {
 }
 
 pub(crate) fn all(rt: &HostRuntime) -> io::Result<()> {
-    show::group(rt, b"packing")?;
+    show::group(rt, "packing")?;
     runs(rt)?;
     short_runs(rt)?;
     dropped(rt)?;

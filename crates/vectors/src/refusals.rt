@@ -4,12 +4,12 @@ use std::io;
 
 // 01: "id above 2FFh".
 fn ids(rt: &HostRuntime) -> io::Result<()> {
-    four::judged(rt, b"2fe, one extra", [1, 0x801F02FE, 2, 0])?;
+    four::judged(rt, "2fe, one extra", [1, 0x801F02FE, 2, 0])?;
     // 01, "Easy errors here": "Letting id 2FFh step to 000h"
-    four::judged(rt, b"2fe, two extra", [1, 0x802F02FE, 2, 3])?;
-    four::judged(rt, b"2ff, two extra, one id", [1, 0x002F02FF, 2, 3])?;
-    four::judged(rt, b"300", [1, 0x000F0300, 0, 0])?;
-    four::judged(rt, b"ffff", [1, 0x000FFFFF, 0, 0])
+    four::judged(rt, "2fe, two extra", [1, 0x802F02FE, 2, 3])?;
+    four::judged(rt, "2ff, two extra, one id", [1, 0x002F02FF, 2, 3])?;
+    four::judged(rt, "300", [1, 0x000F0300, 0, 0])?;
+    four::judged(rt, "ffff", [1, 0x000FFFFF, 0, 0])
 }
 
 // 01: "id 23Ch or 23Dh"; 004, "GPUREG_CMDBUF_JUMP0": "This register triggers a jump to the first command buffer."
@@ -17,18 +17,18 @@ fn jumps(rt: &HostRuntime) -> io::Result<()> {
     // sizes and addresses of both buffers are set up, and then the first is jumped to
     show::judged(
         rt,
-        b"238 to 23b",
+        "238 to 23b",
         &[4, 0x803F0238, 4, 0x300000, 0x300004, 0, 0, 0],
     )?;
     show::judged(
         rt,
-        b"238 to 23c",
+        "238 to 23c",
         &[4, 0x804F0238, 4, 0x300000, 0x300004, 1, 0, 0],
     )?;
-    four::judged(rt, b"23b, one extra", [1, 0x801F023B, 2, 0])?;
-    four::judged(rt, b"23c", [1, 0x000F023C, 0, 0])?;
-    four::judged(rt, b"23d", [1, 0x000F023D, 0, 0])?;
-    four::judged(rt, b"23e", [1, 0x000F023E, 0, 0])
+    four::judged(rt, "23b, one extra", [1, 0x801F023B, 2, 0])?;
+    four::judged(rt, "23c", [1, 0x000F023C, 0, 0])?;
+    four::judged(rt, "23d", [1, 0x000F023D, 0, 0])?;
+    four::judged(rt, "23e", [1, 0x000F023E, 0, 0])
 }
 
 // 01: "Reading: 6, 1, then commands in order, each 2 first and then its writes; the first write at fault ends the reading,
@@ -36,30 +36,30 @@ fn jumps(rt: &HostRuntime) -> io::Result<()> {
 fn order(rt: &HostRuntime) -> io::Result<()> {
     show::judged(
         rt,
-        b"the second command",
+        "the second command",
         &[1, 0x001F0041, 2, 0, 3, 0x000F0300, 0, 0],
     )?;
-    four::judged(rt, b"words before writes", [1, 0x003F0300, 2, 3])?;
+    four::judged(rt, "words before writes", [1, 0x003F0300, 2, 3])?;
     four::judged(
         rt,
-        b"a fault before missing words",
+        "a fault before missing words",
         [1, 0x000F0300, 2, 0x001F0041],
     )?;
     // port data 1C8 is the ninth write, and the jump register far behind it
     let mut list = [0u32; 204];
     list[1] = 0x8C8301C0;
-    show::judged(rt, b"the first fault of many", &list)?;
+    show::judged(rt, "the first fault of many", &list)?;
     // 01, "Easy errors here": "Applying writes while still looking for refusals"
     four::cell_after(
         rt,
-        b"nothing is applied",
+        "nothing is applied",
         [1, 0x000F0041, 2, 0x000F023C],
         0x41,
     )
 }
 
 pub(crate) fn all(rt: &HostRuntime) -> io::Result<()> {
-    show::group(rt, b"refusals")?;
+    show::group(rt, "refusals")?;
     ids(rt)?;
     jumps(rt)?;
     order(rt)

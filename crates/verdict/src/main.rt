@@ -2,41 +2,32 @@
 // `input` for what is no list.
 #![tactic(auto)]
 
-ghost use Rattle.std.specs.Prelude.{length};
-ghost use Rattle.verdict.specs.Inputs.{Within};
+ghost use Rattle.std.specs.Prelude.{IfOk, ◌≤◌, length};
 
 use std::io;
 use std::io::{Read, Write};
 
-// What came from standard input: so many bytes, or a read that failed.
-#[derive(Clone, Copy)]
-enum Input {
-    Bytes(usize),
-    Failed,
-}
-
-// Reads until the input ends or the space is full. A pipe hands its bytes over in pieces, so a short read is no end.
-fn read_all(rt: &HostRuntime, bytes: &mut [u8]) -> Input
-    ensures { Within result (length bytes.old) }
+// Reads until the input ends or the space is full, and answers how many bytes came. A pipe hands its bytes over in pieces, so a short
+// read is no end.
+fn read_all(rt: &HostRuntime, bytes: &mut [u8]) -> io::Result<usize>
+    ensures { IfOk result (λ n. n ≤ length bytes.old) }
 {
     let mut input = rt.stdin();
     let mut n: usize = 0;
     while n < bytes.len() {
-        let Ok(more) = input.read(&mut bytes[n..]) else {
-            return Input::Failed;
-        };
+        let more = input.read(&mut bytes[n..])?;
         if more == 0 {
-            return Input::Bytes(n);
+            return Ok(n);
         }
         n += more;
     }
-    Input::Bytes(n)
+    Ok(n)
 }
 
 // The space is a byte longer than the longest list, so that longer input shows.
 fn main(rt: HostRuntime) -> io::Result<()> {
     let mut bytes = [0u8; 65537];
-    let Input::Bytes(n) = read_all(&rt, &mut bytes) else {
+    let Ok(n) = read_all(&rt, &mut bytes) else {
         return io::writer(&rt).write_all(b"input\n");
     };
     let mut line = [0u8; 64];

@@ -10,16 +10,16 @@ use Rattle.numbers.specs.Pick.{pick}
 use Rattle.words.specs.Header.{id_of, mask_of, count_of, step_of, words_of}
 use Rattle.words.specs.Commands.{header_at, whole}
 use Rattle.words.specs.Taken.{parts_of, head_of, told, head_numbers}
-use Rattle.words.specs.declared.Head.{Head}
-use Rattle.words.specs.declared.Head.TheVariants.{Taken, Refused}
+use Rattle.std.specs.Prelude.{Result, Ok, Err}
 use Rattle.words.specs.declared.Header.{Header}
+use Rattle.words.specs.declared.Reason.TheVariants.{WordsMissing}
 use Rattle.words.specs.declared.Refusal.{Refusal}
 
-abbrev taken : List ℕ → ℕ → Head
-taken l at = Taken (parts_of (header_at l at))
+abbrev taken : List ℕ → ℕ → Result Header Refusal
+taken l at = Ok (parts_of (header_at l at))
 
-abbrev lacking : ℕ → Head
-lacking at = Refused (record { number = 2; place = at })
+abbrev lacking : ℕ → Result Header Refusal
+lacking at = Err (record { reason = WordsMissing; place = at })
 
 pub head_short : (l : List ℕ) (at : ℕ) → length l < at + words_of (header_at l at) → head_of l at ≡ lacking at
 unfolding head_of
@@ -35,7 +35,7 @@ by_whole : (l : List ℕ) (at : ℕ) (b : Bool)
 by_whole l at true = refl
 by_whole l at false = refl
 
-pub head_told : (l : List ℕ) (at : ℕ) (r : Head) → r ≡ head_of l at → (r ≡ head_of l at) × (told r ≡ head_numbers l at)
+pub head_told : (l : List ℕ) (at : ℕ) (r : Result Header Refusal) → r ≡ head_of l at → (r ≡ head_of l at) × (told r ≡ head_numbers l at)
 unfolding head_of head_numbers
 head_told l at r e = (e, rw e (by_whole l at (whole l at)))
 
@@ -57,19 +57,19 @@ pub record Whole (l : List ℕ) (at : ℕ) (h : Header) : Type 0 where
   pub step : h.step ≡ step_of (header_at l at)
 
 by_taken : (l : List ℕ) (at : ℕ) (h : Header) (b : Bool) → whole l at ≡ b
-    → pick b (taken l at) (lacking at) ≡ Taken h → Whole l at h
+    → pick b (taken l at) (lacking at) ≡ Ok h → Whole l at h
 by_taken l at h true t e = record { fits = leb-true _ _ t; id = cc; mask = cc; count = cc; step = cc }
 by_taken l at h false t e = let z : ◌≡◌ {A = ℕ} 0 1 = cc in absurd (omega arith)
 
-pub whole_of : (l : List ℕ) (at : ℕ) (h : Header) → head_of l at ≡ Taken h → Whole l at h
+pub whole_of : (l : List ℕ) (at : ℕ) (h : Header) → head_of l at ≡ Ok h → Whole l at h
 unfolding head_of
 whole_of l at h e = by_taken l at h (whole l at) refl e
 
 by_refused : (l : List ℕ) (at : ℕ) (r : Refusal) (b : Bool) → whole l at ≡ b
-    → pick b (taken l at) (lacking at) ≡ Refused r → length l < at + words_of (header_at l at)
+    → pick b (taken l at) (lacking at) ≡ Err r → length l < at + words_of (header_at l at)
 by_refused l at r true t e = let z : ◌≡◌ {A = ℕ} 0 1 = cc in absurd (omega arith)
 by_refused l at r false t e = leb-false _ _ t
 
-pub short_of : (l : List ℕ) (at : ℕ) (r : Refusal) → head_of l at ≡ Refused r → length l < at + words_of (header_at l at)
+pub short_of : (l : List ℕ) (at : ℕ) (r : Refusal) → head_of l at ≡ Err r → length l < at + words_of (header_at l at)
 unfolding head_of
 short_of l at r e = by_refused l at r (whole l at) refl e

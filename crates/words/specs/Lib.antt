@@ -1,4 +1,5 @@
 pub mod Header
 pub mod Commands
 pub mod Writes
+pub mod Reasons
 pub mod Taken

@@ -5,8 +5,8 @@ use Prim.Native.Nat.{ℕ}
 use contract.Lifetimes.{Lfts}
 use borrow.Fn.Kinds.{Dens}
 use Rattle.numbers.specs.Settled.{Settles, settled}
-use Rattle.reader.specs.Read.{told}
-use Rattle.reader.proofs.Once.{told_one_law}
+use Rattle.words.specs.Reasons.{told}
+use Rattle.words.proofs.Once.{told_one_law}
 use Rattle.writes.specs.Listed.{writes_answer, writes_ids, writes_masks, writes_values}
 use Rattle.writes.proofs.writes_of.Reads as writes_of_reads
 use Rattle.writes.proofs.writes_of.Kinds as writes_of_kinds

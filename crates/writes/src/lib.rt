@@ -5,12 +5,11 @@
 ghost use Rattle.std.specs.Prelude.{◌≡◌, true, ◌++◌, ◌≤◌, length, drop};
 ghost use Rattle.words.specs.Writes.{ids_in, masks_in, values_in};
 ghost use Rattle.words.specs.Commands.{expansion, well_formed};
-ghost use Rattle.reader.specs.Read.{told};
+ghost use Rattle.words.specs.Reasons.{told};
 ghost use Rattle.writes.specs.Listed.{writes_answer, writes_ids, writes_masks, writes_values};
 ghost use Rattle.writes.specs.Rows.{CommandFits, with_row};
 
-use reader::ListVerdict;
-use words::Refusal;
+use words::{Reason, Refusal};
 
 // The ids of the writes of the command at `at`, into the places from `k` on.
 fn put_ids(list: &[u32], at: usize, ids: &mut [u32], k: usize)
@@ -21,11 +20,9 @@ fn put_ids(list: &[u32], at: usize, ids: &mut [u32], k: usize)
     let step = h.step;
     let n = h.count as usize + 1;
     let mut next = h.id;
-    let mut m = 0;
-    while m < n {
-        ids[k + m] = next;
+    for id in ids[k..k + n].iter_mut() {
+        *id = next;
         next += step;
-        m += 1;
     }
 }
 
@@ -35,16 +32,13 @@ fn put_masks(list: &[u32], at: usize, masks: &mut [u32], k: usize)
     ensures { masks.new ≡ with_row masks_in list.now at masks.old k }
 {
     let h = words::parts(list[at + 1]);
-    let mask = h.mask;
     let n = h.count as usize + 1;
-    let mut j = 0;
-    while j < n {
-        masks[k + j] = mask;
-        j += 1;
-    }
+    masks[k..k + n].fill(h.mask);
 }
 
-// Their values: the first stands before the header, the others after it.
+// Their values: the first stands before the header, the others after it. It stays a call of its own: within `put_command` the copy would
+// cost the short commands.
+#[inline(never)]
 fn put_values(list: &[u32], at: usize, values: &mut [u32], k: usize)
     requires { CommandFits list.now at values.old k }
     ensures { values.new ≡ with_row values_in list.now at values.old k }
@@ -52,11 +46,7 @@ fn put_values(list: &[u32], at: usize, values: &mut [u32], k: usize)
     let h = words::parts(list[at + 1]);
     let n = h.count as usize + 1;
     values[k] = list[at];
-    let mut j = 1;
-    while j < n {
-        values[k + j] = list[at + 1 + j];
-        j += 1;
-    }
+    values[k + 1..k + n].copy_from_slice(&list[at + 2..at + 1 + n]);
 }
 
 // The writes of a short command, one after another.
@@ -77,15 +67,13 @@ fn put_short(
     let h = words::parts(list[at + 1]);
     let mask = h.mask;
     let step = h.step;
-    let count = h.count as usize;
+    let n = h.count as usize + 1;
     let mut id = h.id;
     ids[k] = id;
     masks[k] = mask;
     values[k] = list[at];
-    let mut m = 0;
-    while m < count {
+    for m in 1..n {
         id += step;
-        m += 1;
         ids[k + m] = id;
         masks[k + m] = mask;
         values[k + m] = list[at + 1 + m];
@@ -132,6 +120,7 @@ fn put_list(list: &[u32], ids: &mut [u32], masks: &mut [u32], values: &mut [u32]
 {
     let mut at = 0;
     let mut k = 0;
+    // Each turn goes on by a command's words, which its header tells: no range, and no iterator of the library, steps so.
     while at < list.len() {
         let h = words::parts(list[at + 1]);
         let taken = words::words_taken(h);
@@ -154,7 +143,7 @@ pub fn writes_of(
     ids: &mut [u32],
     masks: &mut [u32],
     values: &mut [u32],
-) -> ListVerdict
+) -> Result<usize, Refusal>
     ensures answer { told result ≡ writes_answer list.now ids.old masks.old values.old }
     ensures ids { ids.new ≡ writes_ids list.now ids.old masks.old values.old }
     ensures masks { masks.new ≡ writes_masks list.now ids.old masks.old values.old }
@@ -162,27 +151,24 @@ pub fn writes_of(
 {
     let room = ids.len();
     if !((room == masks.len()) & (room == values.len())) {
-        return ListVerdict::Refused(Refusal {
-            number: words::LENGTHS_DIFFER,
+        return Err(Refusal {
+            reason: Reason::LengthsDiffer,
             place: 0,
         });
     }
     if 65536 < list.len() {
-        return ListVerdict::Refused(Refusal {
-            number: words::LIST_TOO_LONG,
+        return Err(Refusal {
+            reason: Reason::ListTooLong,
             place: 0,
         });
     }
-    let verdict = reader::judge_list(list);
-    let ListVerdict::Accepted(n) = verdict else {
-        return verdict;
-    };
+    let n = reader::judge_list(list)?;
     if room < n {
-        return ListVerdict::Refused(Refusal {
-            number: words::TOO_FEW_PLACES,
+        return Err(Refusal {
+            reason: Reason::TooFewPlaces,
             place: n,
         });
     }
     put_list(list, ids, masks, values);
-    ListVerdict::Accepted(n)
+    Ok(n)
 }

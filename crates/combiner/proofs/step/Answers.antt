@@ -1,12 +1,12 @@
 -- What is stored, as the calls ensure. Assumes nothing.
-use Rattle.combiner.proofs.Mixed.{step_table}
-use Rattle.combiner.specs.Stage.{alpha_mixed, stage_of}
-use Rattle.settings.specs.Colours.{colour_of}
 use mathlib.Core.Path.{refl}
-use Rattle.settings.specs.Ranges.{in_cells}
-use Rattle.settings.specs.Stages.{stage_in}
 use Prim.Native.Nat.{◌+◌}
 use lib.ListN.{get_or}
+use Rattle.settings.specs.Ranges.{in_cells}
+use Rattle.settings.specs.Stages.{stage_in}
+use Rattle.settings.specs.Colours.{colour_of}
+use Rattle.combiner.specs.Stage.{alpha_mixed, stage_of}
+use Rattle.combiner.proofs.Mixed.{step_table}
 use Rattle.combiner.proofs.step.Goals as goal
 
 pub returns : goal.returns

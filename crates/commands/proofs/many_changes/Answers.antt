@@ -1,34 +1,27 @@
 -- The invariant: what is counted so far, with what is still to come from here, is what is counted of all. Assumes nothing.
-use mathlib.Core.Path.{refl}
+use mathlib.Core.Path.{◌≡◌}
+use Prim.Native.Nat.{◌+◌, ◌-◌}
 use native.Mathlib.Omega.{arith}
+use lib.ListN.{length}
 use Rattle.commands.proofs.Changes.{changes_none, changes_next}
 use Rattle.commands.proofs.many_changes.Goals as goal
 
-pub loop-left-init : goal.loop-left-init
-loop-left-init c = (refl, omega arith, omega arith)
-
-pub overflow_add-n : goal.overflow_add-n
-overflow_add-n c =
-    let t = c.loop-left-test.true in
-    omega (arith, c.changed-n.ensures.1, c.loop-left.invariant.1, c.requires.0, t)
-
-pub overflow_add-k : goal.overflow_add-k
-overflow_add-k c =
-    omega (arith, c.loop-left.invariant.0, c.requires.1, c.well_formed, c.loop-left-test.true)
-
-pub loop-left-preserved : goal.loop-left-preserved
-loop-left-preserved c =
+pub loop-value-preserved : goal.loop-value-preserved
+loop-value-preserved c =
     let a = c.args in
-    let o = c.loop-left in
-    let t = c.loop-left-test.true in
+    let o = c.loop-value in
+    let k = o.value-index in
     let m = c.merged-next.ensures in
-    let d = rw m at c.changed-n.ensures in
-    let x = changes_next a.e a.old a.list.now o.cell o.k o.left t in
-    (omega (arith, o.invariant.0, t), omega (arith, o.invariant.1, d.1, t), rw m (omega (arith, o.invariant.2, d.0, x)))
+    let d = c.changed-n.ensures in
+    let left = length a.values.now - k in
+    let x = rw (← m) at (changes_next a.e a.old a.values.now o.cell k left (omega arith)) in
+    let n : length a.values.now - (k + 1) ≡ left - 1 = omega arith in
+    (omega (arith, o.invariant.0, d.1), rw n (omega (arith, o.invariant.1, d.0, x)))
 
 pub returns : goal.returns
 returns c =
     let a = c.args in
-    let o = c.loop-left in
-    let z = changes_none a.e a.old a.list.now o.cell o.k o.left c.loop-left-test.false in
-    (omega (arith, o.invariant.2, z), omega (arith, o.invariant.1))
+    let o = c.loop-value in
+    let k = o.value-index in
+    let z = changes_none a.e a.old a.values.now o.cell k (length a.values.now - k) (omega arith) in
+    (omega (arith, o.invariant.1, z), omega (arith, o.invariant.0))

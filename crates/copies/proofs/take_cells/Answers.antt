@@ -1,27 +1,18 @@
 -- The invariant: the cells before i have taken. Assumes nothing.
-use mathlib.Core.Path.{◌≡◌, sym, ap, ◌∙◌}
-use Prim.Native.Nat.{ℕ}
-use native.Mathlib.Omega.{arith}
-use Rattle.copies.specs.Copy.{cell_taking, taking}
+use mathlib.Core.Path.{sym}
+use Rattle.copies.specs.Copy.{cell_taking}
 use Rattle.copies.proofs.Copies.{taking_none, taking_next}
 use borrow.Author.Rules.{rules}
 use Rattle.copies.proofs.take_cells.Goals as goal
 
-pub loop-i-init : goal.loop-i-init
-loop-i-init c =
+pub loop-id-init : goal.loop-id-init
+loop-id-init c =
     let a = c.args in
-    (omega arith, search rules, sym (taking_none cell_taking a.to.now a.from.now))
+    (search rules, sym (taking_none cell_taking a.to.now a.from.now))
 
-pub loop-i-preserved : goal.loop-i-preserved
-loop-i-preserved c =
+pub loop-id-preserved : goal.loop-id-preserved
+loop-id-preserved c =
     let a = c.args in
-    let o = c.loop-i in
-    let n = taking_next cell_taking a.to.now a.from.now o.i in
-    (omega arith, search rules, rw (c.cell_taken.ensures, c.id_of.ensures, o.invariant.2) (sym n))
-
-pub returns : goal.returns
-returns c =
-    let a = c.args in
-    let o = c.loop-i in
-    let d : o.i ≡ 768 = omega (arith, o.invariant.0) in
-    o.invariant.2 ∙ ap (λ (n : ℕ). taking cell_taking n a.to.now a.from.now) d
+    let o = c.loop-id in
+    let n = taking_next cell_taking a.to.now a.from.now o.id in
+    (search rules, rw (c.cell_taken.ensures, o.invariant.1) (sym n))

@@ -9,7 +9,7 @@ returns c =
       c.take_entries-2.ensures,
       c.take_entries.ensures,
       c.take_cells.ensures,
-      c.requires.from_lengths.1,
-      c.requires.from_lengths.2,
+      c.told-from_fog,
+      c.told-from_light,
     )
     (sym (taken_is _ _))

@@ -5,30 +5,23 @@ use Prim.Native.Nat.{◌+◌, ◌-◌, ◌%◌, ◌≤◌}
 use native.Mathlib.Omega.{arith}
 use lib.ListN.{length}
 use Rattle.words.specs.Writes.{Write}
-use Rattle.runs.specs.PackedList.{writes, packed}
+use Rattle.runs.specs.PackedList.{packed}
 use Rattle.runs.proofs.PackedList.{packed_length, packed_short}
-use Rattle.runs.proofs.Writes.{writes_length}
+use Rattle.planning.specs.RunWrites.{run_writes}
+use Rattle.planning.proofs.RunWrites.{run_length}
 use Rattle.filling.proofs.Pair.{puts_short, puts_empty, puts_filled}
 use Rattle.filling.proofs.fill.Goals as goal
 use Rattle.filling.proofs.fill.Goals.{After-plan_run-laid}
 
 -- the run, and what was planned of it
 abbrev run : (c : After-plan_run-laid) → List Write
-run c = let a = c.args in writes a.ids.now a.masks.now a.values.now
+run c = run_writes c.args.given
 
 planned : (c : After-plan_run-laid) → c.plan_run-laid.result ≡ length (packed (run c))
-planned c = (c.plan_run-laid.ensures c.args.values.now c.requires.0.values).words ∙ sym (packed_length (run c))
+planned c = (c.plan_run-laid.ensures c.args.given.values.now c.args.given.packable.values).words ∙ sym (packed_length (run c))
 
 few : (c : After-plan_run-laid) → c.plan_run-laid.result ≤ 8192
-few c =
-    let a = c.args in
-    let G = c.requires.0 in
-    let n = writes_length a.ids.now a.masks.now a.values.now G.masks G.values in
-    omega (arith, planned c, packed_short (run c), n, G.few)
-
-pub plan_run-laid-requires : goal.plan_run-laid-requires
-plan_run-laid-requires c =
-    (c.requires.0.masks, c.requires.0.few, c.requires.1, c.requires.2)
+few c = omega (arith, planned c, packed_short (run c), run_length c.args.given, c.args.given.packable.few)
 
 pub overflow_add-need : goal.overflow_add-need
 overflow_add-need c = omega (arith, few (goal.at.overflow_add-need c).After-plan_run-laid)
@@ -46,11 +39,10 @@ returns-then-need-lt2 c =
 pub lay_out-requires : goal.lay_out-requires
 lay_out-requires c =
     let o = c.plan_run-laid in
-    let s = (o.ensures c.args.values.now c.requires.0.values).sizes in
+    let s = (o.ensures c.args.given.values.now c.args.given.packable.values).sizes in
     let l = c.put_pair.auto.space in
     let h = c.if-space-need.false in (
-      c.requires.0,
-      omega (arith, o.auto.extra, c.requires.2),
+      omega (arith, o.auto.extra, c.requires.1),
       s,
       omega (arith, planned (goal.at.lay_out-requires c).After-plan_run-laid, h, l),
     )

@@ -1,9 +1,13 @@
--- Little room to keep writes in, or much. Assumes nothing.
+-- The three parts that are packed hold the writes that are kept. Assumes nothing.
 use native.Mathlib.Omega.{arith}
-use mathlib.Core.Path.{refl}
+use Rattle.filling.proofs.Keeping.{parts_few, parts_given}
 use Rattle.filling.proofs.fill_kept.Goals as goal
 
-pub fill_parts-requires-2 : goal.fill_parts-requires-2
-fill_parts-requires-2 c =
-    let p = c.requires in
-    (p.0, omega (arith, p.0.few), refl, refl, p.1, p.2)
+pub invariant_of-kept : goal.invariant_of-kept
+invariant_of-kept g c = record { packable = parts_given _ _ _ _ _ _ _ c.keep-at.ensures c.args.given.packable }
+
+pub fill-requires : goal.fill-requires
+fill-requires g c =
+    let r = c.args.given in
+    let n = parts_few r.ids.now r.masks.now r.values.now _ _ _ _ c.keep-at.ensures r.packable in
+    (omega (arith, n, c.requires, c.told-least), omega (arith, n, c.requires, c.told-extra))

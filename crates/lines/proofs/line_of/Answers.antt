@@ -10,18 +10,6 @@ use Rattle.lines.proofs.Text.{put_first}
 use Rattle.lines.proofs.Inputs.{list_fits, line_of_list, line_of_other}
 use Rattle.lines.proofs.line_of.Goals as goal
 
-pub put_words-n-requires : goal.put_words-n-requires
-put_words-n-requires c = let n = list_fits c.args.bytes.now c.if-bytes.true in omega arith
-
-pub slice_bounds-words-end : goal.slice_bounds-words-end
-slice_bounds-words-end c =
-    let n = list_fits c.args.bytes.now c.if-bytes.true in omega arith
-
-pub slice_bounds-judge_list-end : goal.slice_bounds-judge_list-end
-slice_bounds-judge_list-end c =
-    let n = list_fits c.args.bytes.now c.if-bytes.true in
-    sym (length-take-le c.put_words-n.result c.put_words-n.new.words (omega arith))
-
 pub returns-then-bytes : goal.returns-then-bytes
 returns-then-bytes c =
     let judged = c.judge_list in

@@ -1,5 +1,5 @@
 -- A long run has none counted; of a short one, as long as the search goes on, what is left decides. Assumes nothing.
-use Rattle.std.proofs.Common.{arith, eqb-true}
+use Rattle.std.proofs.Common.{eqb-true}
 use mathlib.Core.Bool.{false≢true}
 use Rattle.numbers.proofs.Room.{lengths_level}
 use Rattle.packer.proofs.Looking.{clear_more, clear_end}
@@ -9,7 +9,7 @@ pub returns-then-ids-ge16 : goal.returns-then-ids-ge16
 returns-then-ids-ge16 c = λ vs q e. c.count_wrong.ensures vs q (eqb-true _ _ e)
 
 pub loop-i-init : goal.loop-i-init
-loop-i-init c = (omega arith, (λ vs q d. d))
+loop-i-init c = λ vs q d. d
 
 pub returns-then-counted-ne0 : goal.returns-then-counted-ne0
 returns-then-counted-ne0 c = λ vs q e. absurd (false≢true e)
@@ -18,12 +18,10 @@ pub loop-i-preserved : goal.loop-i-preserved
 loop-i-preserved c =
     let a = c.args in
     let o = c.loop-i in
-    let t = c.loop-i-test.true in (
-      omega arith,
-      (λ vs q d.
-          let e = lengths_level a.ids.now a.masks.now vs c.requires.0 q in
-          o.invariant.1 vs q (clear_more a.ids.now a.masks.now vs o.i e t (c.counted.ensures.1 c.if-counted-ne0.false) d)),
-    )
+    let t = c.loop-i-test.true in
+    λ vs q d.
+    let e = lengths_level a.ids.now a.masks.now vs c.requires.0 q in
+    o.invariant vs q (clear_more a.ids.now a.masks.now vs o.i e t (c.counted.ensures.1 c.if-counted-ne0.false) d)
 
 pub returns : goal.returns
 returns c =
@@ -31,4 +29,4 @@ returns c =
     let o = c.loop-i in
     λ vs q r.
     let e = lengths_level a.ids.now a.masks.now vs c.requires.0 q in
-    o.invariant.1 vs q (clear_end a.ids.now a.masks.now vs o.i e c.loop-i-test.false)
+    o.invariant vs q (clear_end a.ids.now a.masks.now vs o.i e c.loop-i-test.false)

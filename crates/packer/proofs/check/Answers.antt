@@ -1,13 +1,13 @@
 -- What a look says, but for mask 0. Assumes nothing.
-use Rattle.std.proofs.Common.{sym}
+use Rattle.std.proofs.Common.{◌≡◌, Err, sym, ap, ◌∙◌, rules}
+use Rattle.packer.specs.Checks.{found}
 use Rattle.packer.proofs.check.Goals as goal
 
-pub returns-in-Fine : goal.returns-in-Fine
-returns-in-Fine c =
-    let s = rw c.in-Fine.is at c.look.ensures in
-    sym s.0
+pub returns-in_err-look : goal.returns-in_err-look
+returns-in_err-look c =
+    let why = c.in_err-look.field-0.0 in
+    let e : c.from_residual.result ≡ Err why = search rules in
+    ap found e ∙ sym c.in_err-look.ensures
 
-pub returns-in-Refused : goal.returns-in-Refused
-returns-in-Refused c =
-    let s = rw c.in-Refused.is at c.look.ensures in
-    sym s
+pub returns : goal.returns
+returns c = sym c.in_ok-look.ensures.0

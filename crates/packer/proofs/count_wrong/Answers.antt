@@ -5,21 +5,20 @@ use Rattle.packer.proofs.Looking.{clear_more, clear_end}
 use Rattle.packer.proofs.count_wrong.Goals as goal
 
 pub loop-i-init : goal.loop-i-init
-loop-i-init c = (omega arith, omega arith, (λ vs q r d. d))
+loop-i-init c = (omega arith, (λ vs q r d. d))
 
 pub loop-i-preserved : goal.loop-i-preserved
 loop-i-preserved c =
     let a = c.args in
     let o = c.loop-i in
     let w = c.counted-count in (
-      omega arith,
-      omega (arith, w.ensures.0, o.invariant.1),
+      omega (arith, w.ensures.0, o.invariant.0),
       (λ vs q r d.
           let z : o.count ≡ 0 = omega arith in
           let y : w.result ≡ 0 = omega arith in
           let e = lengths_level a.ids.now a.masks.now vs c.requires.0 q in
           let t = c.loop-i-test.true in
-          o.invariant.2 vs q z (clear_more a.ids.now a.masks.now vs o.i e t (w.ensures.1 y) d)),
+          o.invariant.1 vs q z (clear_more a.ids.now a.masks.now vs o.i e t (w.ensures.1 y) d)),
     )
 
 pub returns : goal.returns
@@ -28,4 +27,4 @@ returns c =
     let o = c.loop-i in
     λ vs q r.
     let e = lengths_level a.ids.now a.masks.now vs c.requires.0 q in
-    o.invariant.2 vs q r (clear_end a.ids.now a.masks.now vs o.i e c.loop-i-test.false)
+    o.invariant.1 vs q r (clear_end a.ids.now a.masks.now vs o.i e c.loop-i-test.false)

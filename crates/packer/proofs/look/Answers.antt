@@ -4,6 +4,7 @@ use Rattle.std.proofs.Common.{◌≡◌, true, drop, refl, ◌∙◌, arith}
 use mathlib.Core.Bool.{false≢true}
 use Rattle.runs.specs.PackedList.{writes}
 use Rattle.packer.specs.Checks.{first_wrong, check_answer}
+use Rattle.words.proofs.Once.{reason_numbered}
 use Rattle.numbers.specs.Room.{level}
 use Rattle.numbers.proofs.Room.{level_lengths}
 use Rattle.packer.proofs.Checks.{check_lengths, check_many, check_writes, wrong_none, wrong_here, wrong_end}
@@ -18,7 +19,7 @@ from_i : (c : At-loop-i)
     → check_answer c.args.ids.now c.args.masks.now c.args.values.now
     ≡ first_wrong c.loop-i.i
     (drop c.loop-i.i (writes c.args.ids.now c.args.masks.now c.args.values.now))
-from_i c = check_writes _ _ _ (one_length c) c.if-n-gt4096.false ∙ c.loop-i.invariant.1
+from_i c = check_writes _ _ _ (one_length c) c.if-n-gt4096.false ∙ c.loop-i.invariant
 
 pub returns-then-not-n-masks : goal.returns-then-not-n-masks
 returns-then-not-n-masks c =
@@ -43,7 +44,7 @@ returns-then-all_right c =
 
 pub loop-i-init : goal.loop-i-init
 loop-i-init c =
-    (omega arith, refl)
+    refl
 
 pub bounds-masks-i : goal.bounds-masks-i
 bounds-masks-i c =
@@ -51,22 +52,18 @@ bounds-masks-i c =
     let l = level_lengths a.ids.now a.masks.now a.values.now (one_length (goal.at.bounds-masks-i c).At-loop-i) in
     omega arith
 
-pub returns-then-why-ne0 : goal.returns-then-why-ne0
-returns-then-why-ne0 c =
+pub returns-in-Some : goal.returns-in-Some
+returns-in-Some c =
     let a = c.args in
-    let w = c.wrong_with-why in
-    let t = c.loop-i-test.true in
-    from_i (goal.at.returns-then-why-ne0 c).At-loop-i ∙ wrong_here a.ids.now a.masks.now a.values.now _
-    (one_length (goal.at.returns-then-why-ne0 c).At-loop-i) t w.result w.ensures c.if-why-ne0.true
+    let e = one_length (goal.at.returns-in-Some c).At-loop-i in
+    from_i (goal.at.returns-in-Some c).At-loop-i
+    ∙ wrong_here a.ids.now a.masks.now a.values.now _ e c.loop-i-test.true _ c.in-Some.ensures (reason_numbered _)
 
 pub loop-i-preserved : goal.loop-i-preserved
 loop-i-preserved c =
     let a = c.args in
-    let w = c.wrong_with-why in
-    let t = c.loop-i-test.true in
-    let none = wrong_none a.ids.now a.masks.now a.values.now _
-    (one_length (goal.at.loop-i-preserved c).At-loop-i) t w.result w.ensures c.if-why-ne0.false in
-    (omega arith, c.loop-i.invariant.1 ∙ none)
+    let e = one_length (goal.at.loop-i-preserved c).At-loop-i in
+    c.loop-i.invariant ∙ wrong_none a.ids.now a.masks.now a.values.now _ e c.loop-i-test.true 0 c.in_default.ensures refl
 
 pub returns : goal.returns
 returns c =

@@ -1,12 +1,8 @@
 -- One word is one step. Assumes nothing.
 use Rattle.std.proofs.Common.{◌+◌, refl, arith}
-use Rattle.registers.specs.State.{st}
+use Rattle.registers.specs.Lent.{lent}
 use Rattle.parts.proofs.Ways.{by_word, leads_by}
 use Rattle.parts.proofs.take_one.Goals as goal
-
-pub overflow_add-result : goal.overflow_add-result
-overflow_add-result c =
-    omega (arith, c.well_formed, c.requires.at_in_bounds)
 
 pub returns : goal.returns
 returns c =
@@ -14,9 +10,10 @@ returns c =
     let w = c.take_word-w.ensures in
     let part = a.part.now in
     record {
+      same = w.same;
       further = omega arith;
       leads = rw w.progress
-          (leads_by part a.p _ a.at (a.at + 1) (st a.cells.now a.fog.now a.light.now) _ _ _
+          (leads_by part a.p _ a.at (a.at + 1) (lent a.state.now) _ _ _
           (by_word part a.p _ a.at _ c.requires.at_in_bounds (record { progress = refl; writes = refl }))
           (omega (arith, c.requires.at_in_bounds)) w.state w.difference);
     }

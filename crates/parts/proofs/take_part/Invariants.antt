@@ -1,19 +1,19 @@
 -- The invariant: what is left of the part leads from here to where the whole part leads, and counts, with what was counted so far, what the
 -- whole part counts. Assumes nothing.
 use Rattle.std.proofs.Common.{◌≡◌, ◌+◌, ◌-◌, ◌≤◌, length, drop}
-use Rattle.registers.specs.State.{st}
+use Rattle.registers.specs.Lent.{lent, buffers}
 use Rattle.registers.specs.Applied.{apply_all, differences}
 use Rattle.parts.specs.Progress.{after, made}
 use Rattle.parts.proofs.take_part.Given as goal
 
 abbrev pub invariant-loop-at : goal.invariant-loop-at
 invariant-loop-at l =
-    (length l.cells ≡ 768) × (length l.fog ≡ 128) × (length l.light ≡ 6144) × (l.at ≤ length l.part)
+    (buffers l.state ≡ buffers l.initial.state) × (l.at ≤ length l.part)
     × (after l.q (drop l.at l.part) ≡ after l.initial.q l.part)
-    × (apply_all (st l.cells l.fog l.light) (made l.q (drop l.at l.part)) ≡ apply_all (st l.initial.cells l.initial.fog l.initial.light)
+    × (apply_all (lent l.state) (made l.q (drop l.at l.part)) ≡ apply_all (lent l.initial.state)
     (made l.initial.q l.part))
-    × (l.n + differences (st l.cells l.fog l.light) (made l.q (drop l.at l.part)) ≡ differences
-    (st l.initial.cells l.initial.fog l.initial.light) (made l.initial.q l.part))
+    × (l.n + differences (lent l.state) (made l.q (drop l.at l.part)) ≡ differences
+    (lent l.initial.state) (made l.initial.q l.part))
     × (l.n ≤ l.at)
 
 abbrev pub decreases-loop-at : goal.decreases-loop-at

@@ -1,7 +1,6 @@
 -- Each way out is one case of the close. Assumes nothing.
 use mathlib.Core.Path.{sym, ap, ◌∙◌}
 use Rattle.registers.specs.State.{st}
-use Rattle.registers.proofs.Sizes.{lengths}
 use Rattle.reader.specs.Read.{told}
 use Rattle.pieces.proofs.Calls.{wrong_live, wrong_spare, right_both, close_wrong, close_refused, close_accepted}
 use Rattle.pieces.proofs.close.Goals as goal
@@ -11,7 +10,7 @@ returns-then-not-is_sized c =
     let a = c.args in
     let s = st a.cells.now a.fog.now a.light.now in
     let t = st a.spare_cells.now a.spare_fog.now a.spare_light.now in
-    let r = close_wrong s t a.p (wrong_live s t (sym c.is_sized.ensures ∙ c.if-not-is_sized.true)) in
+    let r = close_wrong s t a.p (wrong_live s t (sym c.is_sized.ensures.sized ∙ c.if-not-is_sized.true)) in
     let w = c.wrong_length.ensures in
     record {
       answer = w.verdict ∙ r.0;
@@ -25,7 +24,7 @@ returns-then-not-is_sized-2 c =
     let a = c.args in
     let s = st a.cells.now a.fog.now a.light.now in
     let t = st a.spare_cells.now a.spare_fog.now a.spare_light.now in
-    let r = close_wrong s t a.p (wrong_spare s t (sym c.is_sized-2.ensures ∙ c.if-not-is_sized-2.true)) in
+    let r = close_wrong s t a.p (wrong_spare s t (sym c.is_sized-2.ensures.sized ∙ c.if-not-is_sized-2.true)) in
     let w = c.wrong_length-then-not-is_sized-2.ensures in
     record {
       answer = w.verdict ∙ r.0;
@@ -34,34 +33,14 @@ returns-then-not-is_sized-2 c =
       spare = r.3;
     }
 
-pub take_state-requires : goal.take_state-requires
-take_state-requires c =
+pub returns-in-Err : goal.returns-in-Err
+returns-in-Err c =
     let a = c.args in
     let s = st a.cells.now a.fog.now a.light.now in
     let t = st a.spare_cells.now a.spare_fog.now a.spare_light.now in
-    record {
-      lengths = lengths t (sym c.is_sized-2.ensures ∙ c.if-not-is_sized-2.false);
-      from_lengths = lengths s (sym c.is_sized.ensures ∙ c.if-not-is_sized.false);
-    }
-
-pub take_state-requires-in-Accepted : goal.take_state-requires-in-Accepted
-take_state-requires-in-Accepted c =
-    let a = c.args in
-    let s = st a.cells.now a.fog.now a.light.now in
-    let t = st a.spare_cells.now a.spare_fog.now a.spare_light.now in
-    record {
-      lengths = lengths s (sym c.is_sized.ensures ∙ c.if-not-is_sized.false);
-      from_lengths = lengths t (sym c.is_sized-2.ensures ∙ c.if-not-is_sized-2.false);
-    }
-
-pub returns-in-Refused : goal.returns-in-Refused
-returns-in-Refused c =
-    let a = c.args in
-    let s = st a.cells.now a.fog.now a.light.now in
-    let t = st a.spare_cells.now a.spare_fog.now a.spare_light.now in
-    let k = right_both s t (sym c.is_sized.ensures ∙ c.if-not-is_sized.false)
-    (sym c.is_sized-2.ensures ∙ c.if-not-is_sized-2.false) in
-    let v = sym (ap told c.in-Refused.is) ∙ c.verdict_so_far.ensures in
+    let k = right_both s t (sym c.is_sized.ensures.sized ∙ c.if-not-is_sized.false)
+    (sym c.is_sized-2.ensures.sized ∙ c.if-not-is_sized-2.false) in
+    let v = sym (ap told c.in-Err.is) ∙ c.verdict_so_far.ensures in
     let r = close_refused s t a.p _ _ k v in
     record {
       answer = r.0;
@@ -70,18 +49,18 @@ returns-in-Refused c =
       spare = c.take_state.ensures ∙ r.3;
     }
 
-pub returns-in-Accepted : goal.returns-in-Accepted
-returns-in-Accepted c =
+pub returns-in-Ok : goal.returns-in-Ok
+returns-in-Ok c =
     let a = c.args in
     let s = st a.cells.now a.fog.now a.light.now in
     let t = st a.spare_cells.now a.spare_fog.now a.spare_light.now in
-    let k = right_both s t (sym c.is_sized.ensures ∙ c.if-not-is_sized.false)
-    (sym c.is_sized-2.ensures ∙ c.if-not-is_sized-2.false) in
-    let v = sym (ap told c.in-Accepted.is) ∙ c.verdict_so_far.ensures in
+    let k = right_both s t (sym c.is_sized.ensures.sized ∙ c.if-not-is_sized.false)
+    (sym c.is_sized-2.ensures.sized ∙ c.if-not-is_sized-2.false) in
+    let v = sym (ap told c.in-Ok.is) ∙ c.verdict_so_far.ensures in
     let r = close_accepted s t a.p _ k v in
     record {
       answer = r.0;
       progress = c.fresh_progress-progress.ensures ∙ r.1;
-      live = c.take_state-in-Accepted.ensures ∙ r.2;
+      live = c.take_state-in-Ok.ensures ∙ r.2;
       spare = r.3;
     }

@@ -1,6 +1,6 @@
 -- The loop, from the end of the run: the run of writes that one command could carry, the least words and the tables are right from write
 -- i on, whatever the values; the id and the mask of write i are held for the one before it. Assumes nothing.
-use mathlib.Core.Path.{◌≡◌, refl, sym, ◌∙◌}
+use mathlib.Core.Path.{◌≡◌, refl, sym}
 use mathlib.Core.Bool.{Bool, ◌&&◌}
 use mathlib.Core.List.{List}
 use Prim.Native.Nat.{ℕ, ◌+◌, ◌-◌, ◌≤◌, ◌<◌, min, max}
@@ -27,10 +27,10 @@ goes_on : (c : After-going_on) (vs : List ℕ) → length c.args.ids.now ≡ len
     → c.going_on.result ≡ chain c.step_to-step.result (drop c.loop-i.i (writes c.args.ids.now c.args.masks.now vs))
 goes_on c vs q =
     let o = c.loop-i in
-    let K = (o.invariant.6 vs q).runs in
+    let K = (o.invariant.3 vs q).runs in
     let n = run_length c vs q in
     chain_on (writes c.args.ids.now c.args.masks.now vs) o.i o.was o.run o.next_id _ c.step_to-step.result c.going_on.result
-    o.invariant.3 K.writes K.alone (λ h. o.invariant.5 (omega arith)) c.step_to-step.ensures c.going_on.ensures
+    o.invariant.0 K.writes K.alone (λ h. o.invariant.2 (omega arith)) c.step_to-step.ensures c.going_on.ensures
 
 steps : (c : After-going_on) → c.step_to-step.result < 2
 steps c =
@@ -44,7 +44,7 @@ links c vs q =
     let o = c.loop-i in
     chain_linked c.step_to-step.result a.ids.now a.masks.now vs o.i (o.i - 1) o.next_id o.next_mask
     c.going_on.result c.linked-run.result
-    c.requires.0 q (omega arith) (omega arith) o.invariant.4 (goes_on (goal.at.After-linked-run c).After-going_on vs q)
+    c.requires.0 q (omega arith) (omega arith) o.invariant.1 (goes_on (goal.at.After-linked-run c).After-going_on vs q)
     c.linked-run.ensures
 
 -- THE RUN from write i - 1 on
@@ -67,7 +67,7 @@ runs c vs q =
     let ws = writes c.args.ids.now c.args.masks.now vs in
     let a = c.args in
     let o = c.loop-i in
-    let K = o.invariant.6 vs q in
+    let K = o.invariant.3 vs q in
     let step = c.step_to-step in
     let on = c.going_on in
     let joined = c.linked-run in
@@ -82,7 +82,7 @@ runs c vs q =
       writes = links (goal.at.After-end_at-before c).After-linked-run vs q;
       alone =
           λ h. chain_apart a.ids.now a.masks.now vs o.i (o.i - 1) o.next_id o.next_mask step.result c.requires.0 q
-          (omega arith) (omega arith) o.invariant.4 step.ensures;
+          (omega arith) (omega arith) o.invariant.1 step.ensures;
       lasts = E.0;
       befores = E.1;
     }
@@ -99,16 +99,13 @@ right c vs q =
     run_span ws o.i (o.i - 1) c.step_to-step.result c.linked-run.result c.end_at-last.result c.end_at-before.result (omega arith)
     (steps p.After-going_on) (some p.After-end_at-before) R in
     choice_right ws o.i (o.i - 1) (min 256 c.linked-run.result) o.least o.extra c.choose-chosen.result (omega arith) (omega arith)
-    (o.invariant.6 vs q).plan s c.choose-chosen.ensures
+    (o.invariant.3 vs q).plan s c.choose-chosen.ensures
 
 pub loop-i-init : goal.loop-i-init
 loop-i-init c =
     let a = c.args in
     let is = a.ids.now in
     let ms = a.masks.now in (
-      (let z : length is ≤ length is = omega arith in z),
-      refl,
-      refl,
       (let z : 0 < 2 = omega arith in z),
       (λ q. absurd (omega arith)),
       (λ q. (refl, refl)),
@@ -131,7 +128,7 @@ words_at-words-requires c =
     let g = p.After-going_on in
     let i = c.args.ids.now in
     let o = c.loop-i in
-    let K = o.invariant.6 i refl in
+    let K = o.invariant.3 i refl in
     let ws = writes i c.args.masks.now i in
     let n = run_length g i refl in (
       omega (arith, links p.After-linked-run i refl, chain_fits c.step_to-step.result (drop (o.i - 1) ws), length-drop (o.i - 1) ws),
@@ -147,7 +144,7 @@ choose-chosen-requires c =
     let d = p.After-end_at-before in
     let i = c.args.ids.now in
     let o = c.loop-i in
-    let K = o.invariant.6 i refl in
+    let K = o.invariant.3 i refl in
     let n = run_length g i refl in
     let m = length-set c.args.least.now (length i) 0 in
     let last = c.end_at-last in
@@ -155,7 +152,7 @@ choose-chosen-requires c =
     let words = c.words_at-words in
     run_longest (writes i c.args.masks.now i) o.i (o.i - 1) c.step_to-step.result c.linked-run.result last.result before.result
     (omega arith) (steps g) (some d) (runs d i refl) o.need o.after o.last o.before o.least o.extra words.result
-    (omega arith) K.plan K.words (omega (arith, o.invariant.1, c.requires.2)) (omega (arith, c.requires.1))
+    (omega arith) K.plan K.words (omega (arith, o.auto.least, c.requires.2)) (omega (arith, c.requires.1))
     last.ensures before.ensures words.ensures
 
 pub overflow_cast-least : goal.overflow_cast-least
@@ -163,18 +160,6 @@ overflow_cast-least c =
     let p = goal.at.overflow_cast-least c in
     let i = c.args.ids.now in
     omega (arith, (right p.After-choose-chosen i refl).small, run_length p.After-going_on i refl)
-
-pub bounds-least-i-in-loop-i : goal.bounds-least-i-in-loop-i
-bounds-least-i-in-loop-i c =
-    omega (arith, length-set c.args.least.now (length c.args.ids.now) 0)
-
-pub overflow_sub-extra : goal.overflow_sub-extra
-overflow_sub-extra c =
-    omega (arith, (right (goal.at.overflow_sub-extra c).After-choose-chosen c.args.ids.now refl).low)
-
-pub overflow_cast-extra : goal.overflow_cast-extra
-overflow_cast-extra c =
-    omega (arith, (right (goal.at.overflow_cast-extra c).After-choose-chosen c.args.ids.now refl).high)
 
 pub loop-i-preserved : goal.loop-i-preserved
 loop-i-preserved c =
@@ -184,31 +169,12 @@ loop-i-preserved c =
     let a = c.args in
     let o = c.loop-i in
     let m = length-set a.least.now (length a.ids.now) 0 in (
-      (let z : o.i - 1 ≤ length a.ids.now = omega arith in z),
-      length-set o.least _ _ ∙ o.invariant.1,
-      length-set o.extra _ _ ∙ o.invariant.2,
       steps g,
       (λ q. (refl, refl)),
-      (λ q. absurd (omega (arith, o.invariant.0))),
+      (λ q. absurd (omega arith)),
       (λ vs q.
           let n = run_length g vs q in
-          let K = o.invariant.6 vs q in
+          let K = o.invariant.3 vs q in
           kept_more (writes a.ids.now a.masks.now vs) o.i (o.i - 1) _ _ _ _ o.need o.least o.extra c.choose-chosen.result
           (omega arith) (omega arith) (runs d vs q) K.words (right p.After-choose-chosen vs q) (omega arith) (omega arith) K.plan),
     )
-
-pub shape_of-least : goal.shape_of-least
-shape_of-least c =
-    let a = c.args in
-    c.loop-i.invariant.1 ∙ length-set a.least.now _ _
-
-pub shape_of-extra : goal.shape_of-extra
-shape_of-extra c =
-    c.loop-i.invariant.2
-
-pub returns : goal.returns
-returns c =
-    let a = c.args in
-    let o = c.loop-i in
-    let z : o.i ≡ 0 = omega arith in
-    λ vs q. let K = rw z at (o.invariant.6 vs q) in record { words = K.words; sizes = λ j h. K.plan.sizes j (omega arith) h }

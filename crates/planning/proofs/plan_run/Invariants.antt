@@ -10,12 +10,8 @@ use Rattle.planning.proofs.plan_run.Given as goal
 
 abbrev pub invariant-loop-i : goal.invariant-loop-i
 invariant-loop-i l =
-    (l.i ≤ length l.ids) × (length l.least ≡ length l.initial.least) × (length l.extra ≡ length l.initial.extra) × (l.was < 2)
+    (l.was < 2)
     × (l.i < length l.ids → (l.next_id ≡ get_or l.ids l.i 0) × (l.next_mask ≡ get_or l.masks l.i 0))
     × (length l.ids ≤ l.i → (l.was ≡ 0) × (l.next_id ≡ 0))
     × ((vs : List ℕ) → length l.ids ≡ length vs → Kept
     (writes l.ids l.masks vs) l.i l.was l.run l.last l.before l.need l.after l.least l.extra)
-
-abbrev pub decreases-loop-i : goal.decreases-loop-i
-decreases-loop-i l =
-    l.i

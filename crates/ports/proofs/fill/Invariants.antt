@@ -1,6 +1,6 @@
 -- The invariant: what is left to fill leads from here to what all of it leads to. Assumes nothing.
 use mathlib.Core.Path.{◌≡◌}
-use Prim.Native.Nat.{◌+◌, ◌-◌, ◌≤◌}
+use Prim.Native.Nat.{◌+◌, ◌-◌}
 use lib.ListN.{length}
 use Rattle.ports.specs.Uploads.{filled}
 use Rattle.ports.proofs.fill.Given as goal
@@ -8,8 +8,4 @@ use Rattle.ports.proofs.fill.Given as goal
 abbrev pub invariant-loop-k : goal.invariant-loop-k
 invariant-loop-k l =
     (length l.entries ≡ length l.initial.entries)
-    × (l.k ≤ l.n)
     × (filled l.entries (l.e + l.k) l.list (l.j + l.k) (l.n - l.k) ≡ filled l.initial.entries l.e l.list l.j l.n)
-
-abbrev pub decreases-loop-k : goal.decreases-loop-k
-decreases-loop-k l = l.n - l.k

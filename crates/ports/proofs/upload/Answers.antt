@@ -7,14 +7,14 @@ use Rattle.ports.proofs.upload.Goals as goal
 
 pub loop-left-preserved : goal.loop-left-preserved
 loop-left-preserved c =
-    let n = c.least-n.result in
+    let n = c.min-n.result in
     let o = c.loop-left in
     let a = c.args in
-    let m : n + (o.left - n) ≡ o.left = omega (arith, c.least-n.ensures) in
-    let b : o.i + n ≤ a.size = omega (arith, c.least-n.ensures) in (
+    let m : n + (o.left - n) ≡ o.left = omega (arith, c.min-n.ensures) in
+    let b : o.i + n ≤ a.size = omega (arith, c.min-n.ensures) in (
       omega (arith, c.fill.auto),
       rw c.wrap-i.ensures (wrapped_within a.size (o.i + n) (omega arith)),
-      omega (arith, c.least-n.ensures),
+      omega (arith, c.min-n.ensures),
       rw (c.wrap-i.ensures, c.fill.ensures)
           (sym (uploaded_stretch a.size a.table n (o.left - n) o.i o.entries a.list.now o.j o.invariant.1 b)
           ∙ rw m o.invariant.3),

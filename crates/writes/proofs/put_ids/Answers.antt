@@ -1,57 +1,37 @@
--- The first m ids stand from place k on, and the next one is at hand. Assumes nothing.
-use mathlib.Core.Path.{◌≡◌, refl, ap, ◌∙◌}
-use Prim.Native.Nat.{ℕ, ◌+◌}
+-- The first ids stand in their places, and the next one is at hand. Assumes nothing.
+use mathlib.Core.Path.{◌≡◌, ap, ◌∙◌}
+use Prim.Native.Nat.{ℕ, ◌+◌, ◌-◌, ◌<◌}
 use native.Mathlib.Omega.{arith}
-use lib.ListN.{length-set}
-use lib.Seq.{paste-zero}
-use Rattle.words.specs.Header.{count_of}
-use Rattle.words.specs.Writes.{Write, ids_in}
-use Rattle.words.specs.Commands.{header_at, expand}
-use Rattle.writes.proofs.Rows.{id_first, id_next, row_next}
+use lib.ListN.{length, length-take, length-drop}
+use lib.Seq.{get_or-set_same, get_or-set_other}
+use borrow.Author.Count.{below_more}
+use Rattle.writes.proofs.Rows.{id_first, id_next, ids_put}
 use Rattle.writes.proofs.put_ids.Goals as goal
 
-pub loop-m-init : goal.loop-m-init
-loop-m-init c =
-    let a = c.args in
-    let p = c.parts-h.ensures in (
-      omega arith,
-      omega (arith, p.0),
-      λ t. p.0 ∙ id_first a.list.now a.at,
-      refl,
-      paste-zero a.ids.now a.k (ids_in (expand
-          a.list.now a.at)),
-    )
+pub loop-id-init : goal.loop-id-init
+loop-id-init c =
+    let p = c.parts-h.ensures in (omega (arith, p.0), λ t. p.0 ∙ id_first c.args.list.now c.args.at, λ j t. absurd (omega arith))
 
-pub bounds-ids-k : goal.bounds-ids-k
-bounds-ids-k c =
-    omega (arith, c.requires.1, c.loop-m.invariant.3, c.loop-m-test.true, c.parts-h.ensures.2)
-
-pub loop-m-preserved : goal.loop-m-preserved
-loop-m-preserved c =
+pub loop-id-preserved : goal.loop-id-preserved
+loop-id-preserved c =
     let a = c.args in
-    let l = a.list.now in
-    let o = c.loop-m in
+    let o = c.loop-id in
     let p = c.parts-h.ensures in
-    let t = c.loop-m-test.true in
-    let i = o.invariant.2 t in
-    let step = c.parts-h.result.step in (
-      omega arith,
-      omega (arith, p.3, o.invariant.1),
-      (λ x. ap (λ (y : ℕ). o.next + y) p.3 ∙ id_next l a.at o.m o.next (omega
-          (arith, x, p.2)) i),
-      length-set o.ids _ _ ∙ o.invariant.3,
-      row_next l a.at (λ (w : Write). w.id) a.ids.now a.k
-          c.requires.1 o.ids o.m _ _ _ refl refl (omega (arith, t, p.2)) i o.invariant.4,
+    let n : o.id-index < c.parts-h.result.count + 1 = omega (arith, length-take {A = ℕ}, length-drop {A = ℕ}) in
+    let h : o.id-index < length o.id-items = omega (arith, o.auto.id-items, c.loop-id-test.true) in
+    let i = o.invariant.1 n in (
+      omega (arith, p.3, o.invariant.0),
+      (λ t. ap (λ (y : ℕ). o.next + y) p.3 ∙ id_next a.list.now a.at o.id-index o.next (omega (arith, t, p.2)) i),
+      below_more _ _ (λ j t. get_or-set_other _ o.id-index j o.next 0 (omega arith) ∙ o.invariant.2 j t)
+          (get_or-set_same _ o.id-index o.next 0 h ∙ i),
     )
-
-pub shape_of-ids : goal.shape_of-ids
-shape_of-ids c =
-    c.loop-m.invariant.3
 
 pub returns : goal.returns
 returns c =
     let a = c.args in
-    let o = c.loop-m in
+    let o = c.loop-id in
     let p = c.parts-h.ensures in
-    let z : o.m ≡ count_of (header_at a.list.now a.at) + 1 = omega (arith, o.invariant.0, c.loop-m-test.false, p.2) in
-    rw z at o.invariant.4
+    let n : length o.id-items ≡ a.k + (c.parts-h.result.count + 1) - a.k =
+    omega (arith, o.auto.id-items, length-take {A = ℕ}, length-drop {A = ℕ}, c.requires.1, p.2) in
+    ids_put a.list.now a.at a.ids.now a.k c.requires.1 _ _ (omega (arith, p.2)) n
+    (λ j t. o.invariant.2 j (omega (arith, n, c.loop-id-test.false, o.auto.id-items)))

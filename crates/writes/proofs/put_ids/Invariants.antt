@@ -1,19 +1,13 @@
--- The first m ids stand from place k on, and the next one is at hand. Assumes nothing.
+-- The first ids stand in their places, and the next one is at hand. Assumes nothing.
 use mathlib.Core.Path.{◌≡◌}
-use Prim.Native.Nat.{◌+◌, ◌-◌, ◌≤◌, ◌<◌}
-use lib.ListN.{length, get_or}
-use lib.Seq.{paste}
+use Prim.Native.Nat.{ℕ, ◌+◌, ◌≤◌, ◌<◌}
+use lib.ListN.{get_or}
 use Rattle.words.specs.Writes.{ids_in}
 use Rattle.words.specs.Commands.{expand}
 use Rattle.writes.proofs.put_ids.Given as goal
 
-abbrev pub invariant-loop-m : goal.invariant-loop-m
-invariant-loop-m l =
-    (l.m ≤ l.n)
-    × (l.next ≤ 65535 + l.m)
-    × (l.m < l.n → l.next ≡ get_or (ids_in (expand l.list l.at)) l.m 0)
-    × (length l.ids ≡ length l.initial.ids)
-    × (l.ids ≡ paste l.initial.ids l.k (ids_in (expand l.list l.at)) l.m)
-
-abbrev pub decreases-loop-m : goal.decreases-loop-m
-decreases-loop-m l = l.n - l.m
+abbrev pub invariant-loop-id : goal.invariant-loop-id
+invariant-loop-id l =
+    (l.next ≤ 65535 + l.id-index)
+    × (l.id-index < l.n → l.next ≡ get_or (ids_in (expand l.list l.at)) l.id-index 0)
+    × ((j : ℕ) → j < l.id-index → get_or l.id-items j 0 ≡ get_or (ids_in (expand l.list l.at)) j 0)

@@ -1,5 +1,5 @@
 -- The writes of the commands before `at` stand in the first k places, and each command that is left has its words. Assumes nothing.
-use mathlib.Core.Path.{◌≡◌, refl, sym, ◌∙◌}
+use mathlib.Core.Path.{◌≡◌, sym, ◌∙◌}
 use Prim.Native.Nat.{ℕ}
 use native.Mathlib.Omega.{arith}
 use Rattle.words.proofs.Laws.{formed_of}
@@ -14,9 +14,6 @@ pub loop-at-init : goal.loop-at-init
 loop-at-init c =
     let a = c.args in (
       sym (formed_of a.list.now) ∙ c.requires.list_value,
-      refl,
-      refl,
-      refl,
       stands_none a.list.now a.ids.now a.masks.now
           a.values.now,
     )
@@ -36,9 +33,9 @@ loop-at-preserved-then-unmasked c =
     let p = c.parts-h.ensures in
     let w = c.words_taken-taken.ensures in
     let n = full_next l o.at t o.invariant.0 in
-    let s = stands_dropped l a.ids.now a.masks.now a.values.now o.at o.k _ _ _ o.invariant.4 t
+    let s = stands_dropped l a.ids.now a.masks.now a.values.now o.at o.k _ _ _ o.invariant.1 t
     (sym p.1 ∙ c.if-unmasked.true) in
-    (rw (w, p.2) n.1, o.invariant.1, o.invariant.2, o.invariant.3, rw (w, p.2) s)
+    (rw (w, p.2) n.1, rw (w, p.2) s)
 
 pub put_command-requires : goal.put_command-requires
 put_command-requires c =
@@ -46,12 +43,12 @@ put_command-requires c =
     let o = c.loop-at in
     let t = c.loop-at-test.true in
     let m = some c.parts-h.ensures.1 c.if-unmasked.false in
-    let w = next_within a.list.now a.ids.now a.masks.now a.values.now o.at o.k _ _ _ o.invariant.4 t m in
+    let w = next_within a.list.now a.ids.now a.masks.now a.values.now o.at o.k _ _ _ o.invariant.1 t m in
     record {
-      command_fits = ((full_next a.list.now o.at t o.invariant.0).0, omega (arith, w, c.requires.list_in_bounds.0, o.invariant.1));
+      command_fits = ((full_next a.list.now o.at t o.invariant.0).0, omega (arith, w, c.requires.list_in_bounds.0, o.auto.ids));
       ids_len = (
-        omega (arith, c.requires.list_in_bounds.1, o.invariant.1, o.invariant.2),
-        omega (arith, c.requires.list_in_bounds.2, o.invariant.1, o.invariant.3),
+        omega (arith, c.requires.list_in_bounds.1, o.auto.ids, o.auto.masks),
+        omega (arith, c.requires.list_in_bounds.2, o.auto.ids, o.auto.values),
       );
     }
 
@@ -62,7 +59,7 @@ overflow_add-k-in-loop-at c =
     let t = c.loop-at-test.true in
     let p = c.parts-h.ensures in
     let m = some p.1 c.if-unmasked.false in
-    let w = next_within a.list.now a.ids.now a.masks.now a.values.now o.at o.k _ _ _ o.invariant.4 t m in
+    let w = next_within a.list.now a.ids.now a.masks.now a.values.now o.at o.k _ _ _ o.invariant.1 t m in
     omega (arith, p.2, w, c.requires.list_in_bounds.0, c.well_formed)
 
 -- any other
@@ -77,27 +74,15 @@ loop-at-preserved c =
     let q = c.put_command in
     let n = full_next l o.at t o.invariant.0 in
     let m = some p.1 c.if-unmasked.false in
-    let s = stands_next l a.ids.now a.masks.now a.values.now o.at o.k _ _ _ o.invariant.4 t m _ _ _ q.ensures.ids
+    let s = stands_next l a.ids.now a.masks.now a.values.now o.at o.k _ _ _ o.invariant.1 t m _ _ _ q.ensures.ids
     q.ensures.masks q.ensures.values in
-    (rw (w, p.2) n.1, omega (arith, o.invariant.1, q.auto), omega arith, omega arith, rw (w, p.2) s)
-
-pub shape_of-ids : goal.shape_of-ids
-shape_of-ids c =
-    c.loop-at.invariant.1
-
-pub shape_of-masks : goal.shape_of-masks
-shape_of-masks c =
-    c.loop-at.invariant.2
-
-pub shape_of-values : goal.shape_of-values
-shape_of-values c =
-    c.loop-at.invariant.3
+    (rw (w, p.2) n.1, rw (w, p.2) s)
 
 pub returns : goal.returns
 returns c =
     let a = c.args in
     let o = c.loop-at in
-    let s = stands_all a.list.now a.ids.now a.masks.now a.values.now o.at o.k _ _ _ o.invariant.4
+    let s = stands_all a.list.now a.ids.now a.masks.now a.values.now o.at o.k _ _ _ o.invariant.1
     c.loop-at-test.false in
     record {
       ids = s.0;

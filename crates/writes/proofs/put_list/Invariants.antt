@@ -10,9 +10,6 @@ use Rattle.writes.proofs.put_list.Given as goal
 abbrev pub invariant-loop-at : goal.invariant-loop-at
 invariant-loop-at l =
     (full l.list (commands l.list l.at) ≡ true)
-    × (length l.ids ≡ length l.initial.ids)
-    × (length l.masks ≡ length l.initial.masks)
-    × (length l.values ≡ length l.initial.values)
     × Stands l.list l.initial.ids l.initial.masks l.initial.values l.at l.k l.ids l.masks l.values
 
 abbrev pub decreases-loop-at : goal.decreases-loop-at

@@ -1,24 +1,19 @@
--- By the total's sign. Assumes nothing.
-use Rattle.combiner.proofs.Clamped.{below_zero, above_zero}
-use mir.ValLaws.{to_z-of_z}
-use mir.Val.{to_z, of_z}
-use mir.Syntax.{w32}
-use lib.Signed.{nat_abs-le}
+-- The greater of the total and 0. Assumes nothing.
+use mathlib.Core.Path.{◌≡◌, ap, ◌∙◌}
+use Prim.Native.Nat.{◌≤◌}
 use native.Mathlib.Omega.{arith}
-use mathlib.Core.Path.{◌≡◌}
+use lib.IntN.{nat_abs}
+use mir.Syntax.{w32}
+use mir.ValLaws.{to_z-of_z}
+use Rattle.settings.proofs.Signed.{back}
+use Rattle.combiner.specs.Dot.{at_least_zero}
+use Rattle.combiner.proofs.Clamped.{max_zero, at_most_abs}
 use Rattle.combiner.proofs.dot.at_least_zero.Goals as goal
 
-pub overflow_cast-result : goal.overflow_cast-result
-overflow_cast-result c =
+pub returns : goal.returns
+returns c =
     let s = c.args.total in
-    let k : to_z w32 (of_z w32 s) ≡ s = to_z-of_z w32 s c.ranges.total in
-    rw k ((above_zero s (rw k at c.if-total-lt0.false)).0, record { fits = omega (arith, nat_abs-le s c.ranges.total.sfits) })
-
-pub returns-then-total-lt0 : goal.returns-then-total-lt0
-returns-then-total-lt0 c = let s = c.args.total in (below_zero s (rw (to_z-of_z w32 s c.ranges.total) at c.if-total-lt0.true), omega arith)
-
-pub returns-else-total-lt0 : goal.returns-else-total-lt0
-returns-else-total-lt0 c =
-    let s = c.args.total in
-    let k : to_z w32 (of_z w32 s) ≡ s = to_z-of_z w32 s c.ranges.total in
-    rw k ((above_zero s (rw k at c.if-total-lt0.false)).1, c.requires)
+    let m = c.max.result in
+    let e : nat_abs m ≡ at_least_zero s = ap nat_abs (rw (to_z-of_z w32 s c.ranges.total) at c.max.ensures.value) ∙ max_zero s in
+    let n : nat_abs m ≤ 195075 = omega (arith, e, at_most_abs s, c.requires) in
+    rw (back m (omega arith)) (e, n)

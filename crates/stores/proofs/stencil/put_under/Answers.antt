@@ -1,15 +1,17 @@
--- What is put together from two bytes is a byte. Assumes nothing.
-use Prim.Native.Nat.{◌-◌}
-use lib.Bits.{bit_and, or_lt, and_le_l, and_le_r}
+-- A mask's other bits are the same in a byte as in a word. Assumes nothing.
+use mathlib.Core.Path.{◌≡◌, sym, ◌∙◌}
+use Prim.Native.Nat.{ℕ, ◌-◌, ◌%◌, ◌<◌}
 use native.Mathlib.Omega.{arith}
+use lib.Bits.{bit_and, and_le_l, and_mod}
 use Rattle.stores.proofs.stencil.put_under.Goals as goal
 
-pub overflow_cast-result-3 : goal.overflow_cast-result-3
-overflow_cast-result-3 c =
-    let a = c.args in
-    record {
-      fits =
-          or_lt 8 (bit_and a.stored (0xFFFFFFFF - a.mask)) (bit_and a.new a.mask)
-          (omega (arith, and_le_l a.stored (0xFFFFFFFF - a.mask)))
-          (omega (arith, and_le_r a.new a.mask));
-    }
+others : (x m : ℕ) → x < 256 → m < 256 → bit_and x (255 - m) ≡ bit_and x (0xFFFFFFFF - m)
+others x m h k =
+    let wide = bit_and x (0xFFFFFFFF - m) in
+    let e : wide % 256 ≡ wide = omega (arith, and_le_l x (0xFFFFFFFF - m)) in
+    let p : x % 256 ≡ x = omega arith in
+    let q : (0xFFFFFFFF - m) % 256 ≡ 255 - m = omega arith in
+    sym (rw (p, q) at (and_mod x (0xFFFFFFFF - m) 8)) ∙ e
+
+pub returns : goal.returns
+returns c = rw (others c.args.stored c.args.mask (omega arith) (omega arith))

@@ -1,7 +1,0 @@
--- Field by field; the colour as the call ensures. Assumes nothing.
-use Rattle.settings.specs.Colours.{colour_of}
-use Rattle.settings.proofs.frame.read_blending.Goals as goal
-
-pub returns : goal.returns
-unfolding colour_of
-returns c = rw c.colour_of.ensures
