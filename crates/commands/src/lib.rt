@@ -196,7 +196,8 @@ pub fn apply_run(
     ensures state { lent state.new ≡ apply_all (lent state.old) (run_with h first list.now from) }
 {
     let id = h.id;
-    if h.step != 0 {
+    let rises = h.step != 0;
+    if rises {
         return apply_rising(state, table, h, first, list, from);
     }
     if (0xE8 <= id) & (id <= 0xEF) {

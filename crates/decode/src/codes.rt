@@ -167,7 +167,7 @@ pub fn lowest_id(cells: &[u32; 768]) -> usize
 fn bits_of(lacks: bool) -> u64
     ensures { not (eqb result 0) ≡ lacks }
 {
-    if lacks { 1 } else { 0 }
+    u64::from(lacks)
 }
 
 fn modes_lack(x: u32, y: u32) -> u64

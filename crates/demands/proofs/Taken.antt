@@ -23,31 +23,14 @@ use Rattle.registers.proofs.Sizes.{lengths}
 use Rattle.copies.specs.Copy.{cell_taking, entry_taking, taking, taken}
 use Rattle.copies.proofs.Copies.{taking_long, taking_done, taking_later, taken_is}
 use Rattle.demands.proofs.Alike.{Alike}
-use Rattle.registers.specs.State.{Words as words}
-use Rattle.registers.proofs.Words.{held_small, fog_words, light_words, cell_words}
+use Rattle.registers.proofs.Words.{held_small}
+pub use Rattle.registers.proofs.Words.{Words, write_words, run_words}
 use Rattle.demands.proofs.Lengths.{apply_sized}
 use Rattle.demands.proofs.Unheld.{run_keeps, unheld_kept, fog_entries_only, light_entries_only}
 
 -- LENGTHS stay, by any run of writes
 pub sized_kept : (s : State) (ws : List Write) → sized (apply_all s ws) ≡ sized s
 sized_kept = run_keeps sized apply_sized
-
--- WORDS: a state's cells are 32-bit words, before and after any run of writes
-abbrev pub Words : State → Type 0
-Words s = words s.cells
-
-pub write_words : (s : State) (w : Write) → Words s → Words (apply s w)
-unfolding put
-write_words s w h =
-    let P : State → Type 0 = Words in
-    pick_either P (fog_data w.id) (fog_words s.cells h)
-    (pick_either P (light_data w.id) (light_words s.cells h)
-    (cell_words s.cells w.id (spread w.mask) w.value h))
-
-pub run_words : (s : State) (ws : List Write) → Words s → Words (apply_all s ws)
-unfolding apply_all
-run_words s [] h = h
-run_words s (w ∷ ws) h = run_words (apply s w) ws (write_words s w h)
 
 -- WHAT IS TAKEN
 held_taken_bit : (h o n : ℕ) → bit_and (pick_bit h n o) h ≡ bit_and n h

@@ -29,10 +29,7 @@ fn step_at(ids: &[u32], i: usize, k: usize) -> u32
     if k < 2 {
         return 0;
     }
-    if ids[i + 1] == ids[i] {
-        return 0;
-    }
-    1
+    u32::from(ids[i + 1] != ids[i])
 }
 
 // The word after the second parameter, in a command of two or three writes: the third parameter, or the padding word.

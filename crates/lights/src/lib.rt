@@ -75,7 +75,7 @@ pub struct Lights {
 
 // The colour in register i.
 fn read_colour(cells: &[u32; 768], i: usize) -> LightColour
-    requires { (length cells.now ≡ 768) × (i < 768) }
+    requires { i < 768 }
     ensures { result ≡ light_colour_in (in_cells cells.now i) }
 {
     let x = cells[i];
@@ -163,7 +163,7 @@ fn read_light(cells: &[u32; 768], b: usize) -> Light
     }
 }
 
-// All of them. For `settings` alone.
+// All of them.
 pub fn read_lights(cells: &[u32; 768]) -> Lights
     ensures { result ≡ lights_in (in_cells cells.now) }
 {

@@ -17,7 +17,8 @@ use registers::held::HeldTable;
 use registers::lent::Lent;
 use words::Header;
 
-// How far a reading has come: what the words so far leave for the next one to go by.
+// How far a reading has come: what the words so far leave for the next one to go by. Numbers throughout, since C keeps them as words, any
+// of which may come back.
 #[derive(Clone, Copy, Debug, Default, PartialEq, Eq)]
 pub struct Progress {
     // the words that have come, held at 65,537
@@ -67,8 +68,7 @@ fn put_sound(
 ) -> u32
     ensures same { buffers state.new ≡ buffers state.old }
     ensures difference { result ≡ differences (lent state.old) (sound fault (writing id mask value)) }
-    ensures state { lent state.new
-        ≡ apply_all (lent state.old) (sound fault (writing id mask value)) }
+    ensures state { lent state.new ≡ apply_all (lent state.old) (sound fault (writing id mask value)) }
 {
     if fault != 0 {
         return 0;
@@ -124,8 +124,7 @@ fn take_word(p: Progress, state: &mut Lent<'_>, table: &HeldTable, x: u32) -> Ta
     ensures same { buffers state.new ≡ buffers state.old }
     ensures progress { result.progress ≡ next p x }
     ensures difference { result.difference ≡ differences (lent state.old) (makes p x) }
-    ensures state { lent state.new
-        ≡ apply_all (lent state.old) (makes p x) }
+    ensures state { lent state.new ≡ apply_all (lent state.old) (makes p x) }
 {
     let mut q = p;
     if 65535 < p.come {
@@ -223,8 +222,7 @@ fn put_command(
     requires sound { clear h.id (last_id h.id h.count h.step) h.mask ≡ true }
     ensures same { buffers state.new ≡ buffers state.old }
     ensures count { result ≡ differences (lent state.old) (kept (run_with h first list.now from)) }
-    ensures state { lent state.new
-        ≡ apply_all (lent state.old) (kept (run_with h first list.now from)) }
+    ensures state { lent state.new ≡ apply_all (lent state.old) (kept (run_with h first list.now from)) }
 {
     let mask = h.mask;
     let bytes = ports::spread_mask(mask);
@@ -440,12 +438,12 @@ fn take_some(
     take_one(reached, state, table, part, r.at)
 }
 
-// A part, from its first word to its last, by steps of one word or more. The differences of its writes are added at the end.
+// A part, from its first word to its last, by steps of one word or more, each of which tells where the next begins. The differences of its
+// writes are added at the end.
 pub fn take_part(p: Progress, state: &mut Lent<'_>, part: &[u32]) -> Progress
     ensures same { buffers state.new ≡ buffers state.old }
     ensures progress { result ≡ onward p (lent state.old) part.now }
-    ensures state { lent state.new
-        ≡ apply_all (lent state.old) (made p part.now) }
+    ensures state { lent state.new ≡ apply_all (lent state.old) (made p part.now) }
 {
     let table = HeldTable::new();
     let mut q = p;

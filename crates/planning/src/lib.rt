@@ -24,10 +24,7 @@ pub fn words_of(k: usize) -> usize
 fn step_to(id: u32, next: u32) -> usize
     ensures { result ≡ pick (eqb next (id + 1)) 1 0 }
 {
-    if next as usize == id as usize + 1 {
-        return 1;
-    }
-    0
+    usize::from(next as usize == id as usize + 1)
 }
 
 // How many writes go on by `step`, where a `run` of them goes on by the step `was`: ids that go on by one step do not go on by the other.

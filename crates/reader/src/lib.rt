@@ -35,7 +35,8 @@ fn deciding(id: u32, mask: u32, count: u32, step: u32) -> u32
     }
 }
 
-// The verdict on a list's commands, whatever its length: in order, each for its words and then for its writes.
+// The verdict on a list's commands, whatever its length: in order, each for its words and then for its writes. Document 01 asks for
+// nested loops that are left by a label.
 fn judge_commands(list: &[u32]) -> Result<usize, Refusal>
     ensures { told result ≡ judged list.now }
 {
@@ -75,14 +76,14 @@ pub fn judge_list(list: &[u32]) -> Result<usize, Refusal>
 }
 
 // A list's expansion, one masked write after another: how many writes made a difference. The list is well formed and its writes are
-// allowed, so that those of mask 0 change nothing, and are applied like any others: a test for them would cost more.
+// allowed, so that those of mask 0 change nothing, and are applied like any others: a test for them would cost more. By steps: a command's
+// length, read on the way, tells where the next begins.
 fn apply_list(state: &mut Lent<'_>, list: &[u32]) -> u32
     requires lengths { length list.now ≤ 65536 }
     requires list_value { (well_formed list.now ≡ true) × (all_allowed (all_writes list.now) ≡ true) }
     ensures same { buffers state.new ≡ buffers state.old }
     ensures count { result ≡ differences (lent state.old) (expansion list.now) }
-    ensures state { lent state.new
-        ≡ apply_all (lent state.old) (expansion list.now) }
+    ensures state { lent state.new ≡ apply_all (lent state.old) (expansion list.now) }
 {
     let table = HeldTable::new();
     let mut at = 0;

@@ -4,7 +4,7 @@ use Rattle.std.proofs.Common.{◌≡◌, ℕ, true, ◌&&◌, List, ◌++◌, eq
 use Rattle.std.proofs.lemmas.List.{drop_all}
 use Rattle.std.specs.Array.{IsFirstChunk}
 use Rattle.numbers.proofs.Tests.{and_true}
-use Rattle.registers.specs.State.{State, st, sized, Lengths}
+use Rattle.registers.specs.State.{State, st, sized, Lengths, Words32, Whole}
 
 pub lengths : (s : State) → sized s ≡ true → Lengths s.cells s.fog s.light
 lengths s e =
@@ -27,3 +27,11 @@ pub all_back : (s : State) (c f l : List ℕ) (t : State) → Lengths s.cells s.
     → st (c ++ drop 768 s.cells) (f ++ drop 128 s.fog) (l ++ drop 6144 s.light) ≡ t
 all_back s c f l t n p q r =
     rw (given_back 768 s.cells n.0 c, given_back 128 s.fog n.1 f, given_back 6144 s.light n.2 l, p, q, r) refl
+
+-- the arrays that were taken of buffers that pass the test are a state that is lent
+pub whole_taken : (s : State) (c f l : List ℕ) → sized s ≡ true → Words32 s.cells → IsFirstChunk s.cells c 768 → IsFirstChunk s.fog f 128
+    → IsFirstChunk s.light l 6144
+    → Whole c f l
+whole_taken s c f l e w p q r =
+    let n = lengths s e in
+    rw (taken_whole 768 s.cells n.0 c p, taken_whole 128 s.fog n.1 f q, taken_whole 6144 s.light n.2 l r) (n, w)

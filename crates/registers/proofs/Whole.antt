@@ -7,7 +7,7 @@ use Rattle.numbers.specs.Bits.{merge, spread}
 use Rattle.words.specs.Writes.{Write, fog_data, light_data}
 use Rattle.ports.specs.Ports.{fog_cells, fog_entries, light_cells, light_entries}
 use Rattle.registers.specs.Held.{bits_of}
-use Rattle.registers.specs.State.{State, Words, Whole}
+use Rattle.registers.specs.State.{State, Words32, Whole}
 use Rattle.registers.specs.declared.lent.Lent.{Lent}
 use Rattle.registers.proofs.Words.{fog_words, light_words, cell_words}
 use Rattle.registers.specs.Applied.{cells_after, put, apply_all}
@@ -56,5 +56,5 @@ is_whole s ws t w e = rw e (all_whole s ws w)
 pub cells_long : (l : Lent) → length l.cells.now ≡ 768
 cells_long l = l.whole.0.0
 
-pub cells_words : (l : Lent) → Words l.cells.now
+pub cells_words : (l : Lent) → Words32 l.cells.now
 cells_words l = l.whole.1

@@ -18,9 +18,9 @@ abbrev pub Lengths : List ℕ → List ℕ → List ℕ → Type 0
 Lengths c f l = (length c ≡ 768) × (length f ≡ 128) × (length l ≡ 6144)
 
 -- 32-bit words
-abbrev pub Words : List ℕ → Type 0
-Words l = (i : ℕ) → get_or l i 0 < 0x100000000
+abbrev pub Words32 : List ℕ → Type 0
+Words32 l = (i : ℕ) → get_or l i 0 < 0x100000000
 
 -- what is so of every state that is lent: these lengths, and cells of 32 bits
 abbrev pub Whole : List ℕ → List ℕ → List ℕ → Type 0
-Whole c f l = Lengths c f l × Words c
+Whole c f l = Lengths c f l × Words32 c

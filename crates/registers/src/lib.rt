@@ -5,7 +5,7 @@
 ghost use Rattle.std.specs.Prelude.{◌≡◌, not, ◌+◌, ◌<◌, ◌≤◌, eqb};
 ghost use Rattle.numbers.specs.Pick.{pick};
 ghost use Rattle.words.specs.Writes.{writing};
-ghost use Rattle.registers.specs.State.{st, sized, Words};
+ghost use Rattle.registers.specs.State.{st, sized, Words32};
 ghost use Rattle.registers.specs.Lent.{lent, buffers};
 ghost use Rattle.registers.specs.Applied.{put, differs};
 ghost use Rattle.registers.specs.Single.{told, write_answer, write_state};
@@ -57,7 +57,7 @@ impl Lent<'_> {
 // The three buffers have a state's lengths. That the cells are 32-bit words, their type says.
 pub fn is_sized(cells: &[u32], fog: &[u32], light: &[u32]) -> bool
     ensures sized { result ≡ sized (st cells.now fog.now light.now) }
-    ensures words { Words cells.now }
+    ensures words { Words32 cells.now }
 {
     (cells.len() == 768) & (fog.len() == 128) & (light.len() == 6144)
 }

@@ -20,7 +20,7 @@ fog_leaves c =
     let up = c.upload_fog.ensures in
     let first = c.put_fog.ensures in
     rw (up.0, up.1, first.0, first.1)
-    (sym (fog_command a.h c.if-h-ne0.false a.first a.list.now a.from b.cells.now b.fog.now b.light.now c.if-id.true
+    (sym (fog_command a.h c.if-rises.false a.first a.list.now a.from b.cells.now b.fog.now b.light.now c.if-id.true
     (omega (arith, cells_long b))))
 
 light_leaves : (c : After-upload_light) →
@@ -33,7 +33,7 @@ light_leaves c =
     let up = c.upload_light.ensures in
     let first = c.put_light.ensures in
     rw (up.0, up.1, first.0, first.1)
-    (sym (light_command a.h c.if-h-ne0.false a.first a.list.now a.from b.cells.now b.fog.now b.light.now c.if-id-2.true
+    (sym (light_command a.h c.if-rises.false a.first a.list.now a.from b.cells.now b.fog.now b.light.now c.if-id-2.true
     (omega (arith, cells_long b))))
 
 pub invariant_of-state : goal.invariant_of-state
@@ -47,7 +47,7 @@ returns-then-id c =
       same = refl;
       count = omega (
         arith,
-        fog_counts a.h c.if-h-ne0.false a.first a.list.now a.from b.cells.now b.fog.now b.light.now (lent b) c.if-id.true,
+        fog_counts a.h c.if-rises.false a.first a.list.now a.from b.cells.now b.fog.now b.light.now (lent b) c.if-id.true,
       );
       state = fog_leaves (goal.at.returns-then-id c).After-upload_fog;
     }
@@ -63,7 +63,7 @@ returns-then-id-2 c =
       same = refl;
       count = omega (
         arith,
-        light_counts a.h c.if-h-ne0.false a.first a.list.now a.from b.cells.now b.fog.now b.light.now (lent b) c.if-id-2.true,
+        light_counts a.h c.if-rises.false a.first a.list.now a.from b.cells.now b.fog.now b.light.now (lent b) c.if-id-2.true,
       );
       state = light_leaves (goal.at.returns-then-id-2 c).After-upload_light;
     }

@@ -5,15 +5,6 @@ use Rattle.numbers.proofs.Room.{lengths_level}
 use Rattle.packer.proofs.Looking.{clear_more, clear_end}
 use Rattle.packer.proofs.all_right.Goals as goal
 
-pub returns-then-ids-ge16 : goal.returns-then-ids-ge16
-returns-then-ids-ge16 c = λ vs q e. c.count_wrong.ensures vs q (eqb-true _ _ e)
-
-pub loop-i-init : goal.loop-i-init
-loop-i-init c = λ vs q d. d
-
-pub returns-then-counted-ne0 : goal.returns-then-counted-ne0
-returns-then-counted-ne0 c = λ vs q e. absurd (false≢true e)
-
 pub loop-i-preserved : goal.loop-i-preserved
 loop-i-preserved c =
     let a = c.args in

@@ -4,9 +4,6 @@ use Rattle.numbers.proofs.Room.{lengths_level}
 use Rattle.packer.proofs.Looking.{clear_more, clear_end}
 use Rattle.packer.proofs.count_wrong.Goals as goal
 
-pub loop-i-init : goal.loop-i-init
-loop-i-init c = (omega arith, (λ vs q r d. d))
-
 pub loop-i-preserved : goal.loop-i-preserved
 loop-i-preserved c =
     let a = c.args in

@@ -29,11 +29,6 @@ pub returns-then-n-gt4096 : goal.returns-then-n-gt4096
 returns-then-n-gt4096 c =
     check_many _ _ _ (c.if-not-n-masks.false) c.if-n-gt4096.true
 
-pub all_right-requires : goal.all_right-requires
-all_right-requires c =
-    let a = c.args in
-    ((level_lengths a.ids.now a.masks.now a.values.now (c.if-not-n-masks.false)).0, c.if-n-gt4096.false)
-
 pub returns-then-all_right : goal.returns-then-all_right
 returns-then-all_right c =
     let a = c.args in
@@ -41,16 +36,6 @@ returns-then-all_right c =
     let l = level_lengths a.ids.now a.masks.now a.values.now t in
     let d = c.all_right.ensures a.values.now l.1 c.if-all_right.true in
     (check_writes _ _ _ t c.if-n-gt4096.false ∙ d.right, (λ e. d.live))
-
-pub loop-i-init : goal.loop-i-init
-loop-i-init c =
-    refl
-
-pub bounds-masks-i : goal.bounds-masks-i
-bounds-masks-i c =
-    let a = c.args in
-    let l = level_lengths a.ids.now a.masks.now a.values.now (one_length (goal.at.bounds-masks-i c).At-loop-i) in
-    omega arith
 
 pub returns-in-Some : goal.returns-in-Some
 returns-in-Some c =

@@ -15,9 +15,6 @@ returns-in_err-live c =
 pub invariant_of-given : goal.invariant_of-given
 invariant_of-given c = record { packable = check_given _ _ _ 0 c.in_ok-live.ensures.0 }
 
-pub pack_checked-requires : goal.pack_checked-requires
-pack_checked-requires c = c.in_ok-live.ensures.1
-
 pub returns : goal.returns
 returns c =
     let o = c.pack_checked.ensures in

@@ -1,5 +1,5 @@
 -- The first write, and then the run of the others; those of mask 0 leave what they find. Assumes nothing.
-use Rattle.std.proofs.Common.{◌≡◌, ℕ, ◌+◌, ◌<◌, ◌≤◌, true, List, length, get_or, sym, ◌∙◌, arith}
+use Rattle.std.proofs.Common.{◌≡◌, ℕ, ◌+◌, ◌≤◌, true, List, sym, ◌∙◌, arith}
 use Rattle.words.specs.Writes.{writing, kept}
 use Rattle.words.specs.declared.Header.{Header}
 use Rattle.registers.specs.declared.lent.Lent.{Lent}

@@ -4,7 +4,7 @@ use borrow.Author.Rules.{rules}
 use native.Mathlib.Omega.{arith}
 use Rattle.registers.specs.State.{st}
 use Rattle.registers.specs.Lent.{lent}
-use Rattle.registers.proofs.Sizes.{lengths, taken_whole, all_back}
+use Rattle.registers.proofs.Sizes.{lengths, taken_whole, whole_taken, all_back}
 use Rattle.pieces.specs.Pieces.{told}
 use Rattle.pieces.proofs.Calls.{feed_told, feed_wrong, feed_right}
 use Rattle.pieces.proofs.feed.Goals as goal
@@ -29,11 +29,13 @@ unwrap-fog-requires c =
 pub invariant_of-state : goal.invariant_of-state
 invariant_of-state c =
     let a = c.args in
-    let n = lengths (st a.cells.now a.fog.now a.light.now) (sym c.is_sized.ensures.sized ∙ c.if-not-is_sized.false) in
-    let cells = taken_whole 768 a.cells.now n.0 _ (rw c.unwrap-cells.ensures at c.first_chunk_mut.ensures.cases) in
-    let fog = taken_whole 128 a.fog.now n.1 _ (rw c.unwrap-fog.ensures at c.first_chunk_mut-2.ensures.cases) in
-    let light = taken_whole 6144 a.light.now n.2 _ (rw c.unwrap-light.ensures at c.first_chunk_mut-3.ensures.cases) in
-    record { whole = rw (cells, fog, light) (n, c.is_sized.ensures.words) }
+    record {
+      whole = whole_taken (st a.cells.now a.fog.now a.light.now) _ _ _ (sym c.is_sized.ensures.sized ∙ c.if-not-is_sized.false)
+          c.is_sized.ensures.words
+          (rw c.unwrap-cells.ensures at c.first_chunk_mut.ensures.cases)
+          (rw c.unwrap-fog.ensures at c.first_chunk_mut-2.ensures.cases)
+          (rw c.unwrap-light.ensures at c.first_chunk_mut-3.ensures.cases);
+    }
 
 pub returns : goal.returns
 returns c =

@@ -52,16 +52,6 @@ put_command-requires c =
       );
     }
 
-pub overflow_add-k-in-loop-at : goal.overflow_add-k-in-loop-at
-overflow_add-k-in-loop-at c =
-    let a = c.args in
-    let o = c.loop-at in
-    let t = c.loop-at-test.true in
-    let p = c.parts-h.ensures in
-    let m = some p.1 c.if-unmasked.false in
-    let w = next_within a.list.now a.ids.now a.masks.now a.values.now o.at o.k _ _ _ o.invariant.1 t m in
-    omega (arith, p.2, w, c.requires.list_in_bounds.0, c.well_formed)
-
 -- any other
 pub loop-at-preserved : goal.loop-at-preserved
 loop-at-preserved c =
