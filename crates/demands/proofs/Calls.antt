@@ -157,19 +157,23 @@ pub record DrawCall (s : State) (g : Given) (incoming : ℕ) (stored : Stored) (
 
 -- WHAT EACH IS THEN KNOWN TO ANSWER AND TO LEAVE
 
-pub write_call : {s t : State} {w : Write} {a : Result Bool Refusal} → WriteCall s w a t → (write-told a ≡ write_answer s w) × (t ≡ write_state s w)
+pub write_call : {s t : State} {w : Write} {a : Result Bool Refusal} → WriteCall s w a t
+    → (write-told a ≡ write_answer s w) × (t ≡ write_state s w)
 write_call c = rw (← c.state, ← c.given, ← c.after) c.promise
 
-pub read_call : {s t : State} {l : List ℕ} {a : Result Counts Refusal} → ReadCall s l a t → (told_both a ≡ read_answers s l) × (t ≡ read_state s l)
+pub read_call : {s t : State} {l : List ℕ} {a : Result Counts Refusal} → ReadCall s l a t
+    → (told_both a ≡ read_answers s l) × (t ≡ read_state s l)
 read_call c = rw (← c.state, ← c.list, ← c.after) c.promise
 
 pub judge_call : {l : List ℕ} {a : Result ℕ Refusal} → JudgeCall l a → list-told a ≡ verdict l
 judge_call c = rw (← c.list) c.promise
 
-pub open_call : {live spare t : State} {a : Result Progress Refusal} → OpenCall live spare a t → (a ≡ opening live spare) × (t ≡ opened_spare live spare)
+pub open_call : {live spare t : State} {a : Result Progress Refusal} → OpenCall live spare a t
+    → (a ≡ opening live spare) × (t ≡ opened_spare live spare)
 open_call c = let q = rw (c.live, c.spare, c.after) at c.promise in (q.0, q.1.0)
 
-pub feed_call : {p : Progress} {s t : State} {l : List ℕ} {a : Result Progress Refusal} → FeedCall p s l a t → (a ≡ feeding p s l) × (t ≡ fed_spare p s l)
+pub feed_call : {p : Progress} {s t : State} {l : List ℕ} {a : Result Progress Refusal} → FeedCall p s l a t
+    → (a ≡ feeding p s l) × (t ≡ fed_spare p s l)
 feed_call c = let q = rw (c.progress, c.state, c.list, c.after) at c.promise in (q.0, q.1.0)
 
 pub close_call : {p : Progress} {live spare live' spare' : State} {a : Closed} → CloseCall p live spare a live' spare'

@@ -136,7 +136,9 @@ module _ (s : State) (incoming : ℕ) (stored : Stored) where
 
   -- the tests after decoding, in their order
   abbrev Tested : Result Outcome Refusal → Bool → Bool → Bool → Result Outcome Refusal
-  Tested done a b c = pick a (pick b (draw-refusal DepthAboveLargest 0) (pick c (draw-refusal DepthAboveLargest 1) done)) (draw-refusal NotBuilt (unbuilt_id x))
+  Tested done a b c =
+      pick a (pick b (draw-refusal DepthAboveLargest 0) (pick c (draw-refusal DepthAboveLargest 1) done))
+      (draw-refusal NotBuilt (unbuilt_id x))
 
   module _ (n : Reason) (p : ℕ) (held : decoded_of s ≡ Ok (settings_of s)) where
     -- 14, or 12 by one of the depths

@@ -214,7 +214,8 @@ module _ {live s t live' spare' : State} {p q : Progress} {c : Closed} (ls : Lis
       (told_both c.verdict) c.progress live' spare' closes
 
   -- against a call of `read` on the live state and the joined list: the same verdict, writes, differences and live state
-  pub as_read : {r : Result Counts Refusal} {u : State} → Words live → Words s → ReadCall live (joined ls) r u → (c.verdict ≡ r) × (live' ≡ u)
+  pub as_read : {r : Result Counts Refusal} {u : State} → Words live → Words s → ReadCall live (joined ls) r u
+      → (c.verdict ≡ r) × (live' ≡ u)
   as_read {r} {u} w v x =
       let y = read_call x in
       (both_one c.verdict r (in_pieces.answers w v ∙ sym y.0), in_pieces.state w ∙ sym y.1)

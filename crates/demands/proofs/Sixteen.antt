@@ -41,7 +41,8 @@ use Rattle.words.specs.declared.Reason.TheVariants.{ListTooLong, NoRoom, Illegal
 illegal : (l : List ℕ) → legal l ≡ false → verdict l ≡ refused 15 0
 illegal l e = verdict_odd l (eqb-false (length l % 4) 0 e)
 
-pub read_illegal : {s t : State} {l : List ℕ} {r : Result Counts Refusal} → ReadCall s l r t → sized s ≡ true → length l ≤ 65536 → legal l ≡ false
+pub read_illegal : {s t : State} {l : List ℕ} {r : Result Counts Refusal} → ReadCall s l r t → sized s ≡ true
+    → length l ≤ 65536 → legal l ≡ false
     → (r ≡ Err (record { reason = IllegalLength; place = 0 })) × (t ≡ s)
 unfolding read_answers read_answer
 read_illegal {s} {t} {l} {r} c z h e =
