@@ -26,14 +26,6 @@ void *memset(void *to, int byte, size_t n) {
     return to;
 }
 
-void *memmove(void *to, const void *from, size_t n) {
-    volatile unsigned char *t = to;
-    const volatile unsigned char *f = from;
-    if ((uintptr_t)t < (uintptr_t)f) while (n-- > 0) *t++ = *f++;
-    else while (n-- > 0) t[n] = f[n];
-    return to;
-}
-
 void *memcpy(void *restrict to, const void *restrict from, size_t n) {
     volatile unsigned char *t = to;
     const unsigned char *f = from;

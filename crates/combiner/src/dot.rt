@@ -24,11 +24,12 @@ fn term(a: u8, b: u8) -> i32
     centre(a) * centre(b)
 }
 
+#[tactic(auto, using(crate::proofs::Clamped::max_zero, crate::proofs::Clamped::at_most_abs))]
 fn at_least_zero(total: i32) -> u32
     requires { nat_abs total ≤ 195075 }
     ensures { (result ≡ at_least_zero total) × (result ≤ 195075) }
 {
-    total.max(0) as u32
+    total.max(0).unsigned_abs()
 }
 
 // The total is held to zero before it is divided: the division is of numbers that are not negative.

@@ -113,8 +113,8 @@ pub fn put_list(given: Run, live: bool, space: &mut [u32]) -> usize
     ensures { Puts (written (run_writes given.entry)) result space.old
         space.new }
 {
-    if given.ids.len() < 128 {
-        return put_within::<128>(given, live, space);
+    if given.ids.len() <= 128 {
+        return put_within::<129>(given, live, space);
     }
     put_within::<4097>(given, live, space)
 }

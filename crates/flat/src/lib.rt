@@ -180,7 +180,9 @@ fn lay(fields: &mut [u32], at: usize, ws: &[u32])
     requires { at + length ws.now ≤ length fields.old }
     ensures { take (at + length ws.now) fields.new ≡ take at fields.old ++ ws.now }
 {
-    fields[at..at + ws.len()].copy_from_slice(ws);
+    for (i, &word) in ws.iter().enumerate() {
+        fields[at + i] = word;
+    }
 }
 
 fn lay_stage(fields: &mut [u32], at: usize, s: Stage)

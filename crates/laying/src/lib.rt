@@ -61,7 +61,9 @@ fn copy_in(words: &[u32], space: &mut [u32], at: usize)
     requires { at + length words.now ≤ length space.old }
     ensures { space.new ≡ paste space.old at words.now (length words.now) }
 {
-    space[at..at + words.len()].copy_from_slice(words);
+    for (i, &word) in words.iter().enumerate() {
+        space[at + i] = word;
+    }
 }
 
 // Writes the command of k writes from i on into the space at `at`.

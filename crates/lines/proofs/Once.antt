@@ -3,12 +3,15 @@
 use contract.Lifetimes.{Lfts}
 use borrow.Fn.Kinds.{Dens}
 use lib.ListN.{length}
+use Rattle.numbers.specs.Answer.{refused}
 use Rattle.numbers.specs.Settled.{Settles, settled}
 use Rattle.reader.specs.Read.{told}
 use Rattle.lines.specs.Text.{over}
 use Rattle.lines.specs.Lines.{line_for, line_of}
 use Rattle.lines.proofs.line_for.Reads as line_for_reads
 use Rattle.lines.proofs.line_for.Kinds as line_for_kinds
+use Rattle.lines.proofs.put_refused.Reads as put_refused_reads
+use Rattle.lines.proofs.put_refused.Kinds as put_refused_kinds
 use Rattle.lines.proofs.line_of.Reads as line_of_reads
 use Rattle.lines.proofs.line_of.Kinds as line_of_kinds
 
@@ -21,3 +24,8 @@ pub line_of_settled : (κs : Lfts 2) (a : Dens κs line_of_kinds.ps) → Settles
 line_of_settled κs a =
     let text = line_of a.0.now in
     settled _ _ (λ r. r) (λ r r' e. e) (length text) (over a.1.0.now 0 text) (λ r e p. (p.number, p.bytes))
+
+pub put_refused_settled : (κs : Lfts 1) (a : Dens κs put_refused_kinds.ps) → Settles (λ e. e.0.now) (put_refused_reads.Post κs a)
+put_refused_settled κs a =
+    let text = line_for (refused a.1.0 a.1.1.0) in
+    settled _ _ (λ r. r) (λ r r' e. e) (length text) (over a.0.now 0 text) (λ r e p. (p.number, p.bytes))

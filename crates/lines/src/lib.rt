@@ -21,6 +21,7 @@ fn put_text(line: &mut [u8], at: usize, text: &[u8]) -> usize
 }
 
 // Puts a number in decimal at `at`, and answers the place after it.
+#[tactic(auto, using(crate::proofs::Text::decimal_printed))]
 fn put_decimal(line: &mut [u8], at: usize, n: usize) -> usize
     requires { at + length (decimal n) ≤ length line.old }
     ensures { (result ≡ at + length (decimal n)) × (line.new ≡ over line.old at (decimal n)) }
@@ -39,9 +40,9 @@ fn put_ok(line: &mut [u8], n: usize) -> usize
     put_text(line, b, b"\n")
 }
 
-// The line for a refused one. It has at most 53 bytes: the texts 12, each number 20, and the newline.
-fn put_refused(line: &mut [u8], number: u32, place: usize) -> usize
-    requires { 64 ≤ length line.old }
+// The line for a refused one, whatever its number, one that no `Reason` has too. It has at most 53 bytes: the texts 12, each number 20, and
+// the newline.
+pub fn put_refused(line: &mut [u8; 64], number: u32, place: usize) -> usize
     ensures { Put line.old (line_for (refused number place)) result line.new }
 {
     let a = put_text(line, 0, b"refused ");

@@ -27,10 +27,11 @@ mod readers;
 fn told(given: Result<usize, Refusal>) -> u64
     ensures { result ≡ answer (words.told given) }
 {
-    match given {
-        Ok(n) => n as u64 % 0x100000000,
-        Err(why) => { u32::from(why.reason) as u64 * 0x100000000 + why.place as u64 % 0x100000000 }
-    }
+    let (number, value) = match given {
+        Ok(n) => (0, n),
+        Err(why) => (u32::from(why.reason), why.place),
+    };
+    number as u64 * 0x100000000 + value as u64 % 0x100000000
 }
 
 // A list read into a state: the number of writes in its expansion; in `differences` how many of them made a difference, untouched on a

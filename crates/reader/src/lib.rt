@@ -48,7 +48,7 @@ fn judge_commands(list: &[u32]) -> Result<usize, Refusal>
         }
         let head = words::head_at(list, at);
         let Ok(h) = head else {
-            break 'commands head.map(|_| n);
+            break 'commands words::refusal_in(head).map_or(Ok(n), Err);
         };
         let mut id = h.id;
         for _ in 0..deciding(h.id, h.mask, h.count, h.step) {
@@ -99,6 +99,7 @@ fn apply_list(state: &mut Lent<'_>, list: &[u32]) -> u32
 
 // A list read into a state: the number of writes in its expansion and how many of them made a difference, or a refusal, 6 before 1 before
 // the verdict's, 15 first; a refused list changes nothing.
+#[tactic(auto, unfolding(crate::specs::Read::read_answer, crate::specs::Read::read_answers, crate::specs::Read::read_state))]
 pub fn read(
     cells: &mut [u32],
     fog: &mut [u32],

@@ -59,8 +59,8 @@ pub struct HeldTable {
 impl HeldTable {
     pub fn new() -> HeldTable {
         HeldTable {
-            slots: SLOTS,
-            rows: HELD,
+            slots: slot_table(),
+            rows: held_table(),
         }
     }
 

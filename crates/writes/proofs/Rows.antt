@@ -1,20 +1,18 @@
 -- The rows of a command's writes, ids, masks and values, place by place, and as they are put one after another. Assumes nothing.
 use mathlib.Core.Path.{◌≡◌, refl, sym, ap, ◌∙◌}
-use mathlib.Core.List.{List, [], ◌∷◌, map}
+use mathlib.Core.List.{List, ◌∷◌, map}
 use Prim.Native.Nat.{ℕ, zero, suc, ◌+◌, ◌≤◌, ◌<◌}
 use native.Mathlib.Omega.{arith}
-use lib.ListN.{length, get_or, take, drop, set, replicate, length-map, length-take, length-drop}
-use lib.Seq.{drop-cons, paste, paste-zero}
+use lib.ListN.{length, get_or, set, replicate, length-map}
+use lib.Seq.{paste, paste-zero}
 use borrow.Rule.Slice.PartMut.{put_mid}
 use Rattle.std.proofs.lemmas.List.{same_lists, get_or_default}
-use Rattle.std.proofs.lemmas.List.Edits.{paste-paste}
 use Rattle.std.proofs.lemmas.Slice.{put_mid-paste}
 use Rattle.numbers.proofs.Copy.{next_word, copy_more}
 use Rattle.words.specs.Header.{id_of, mask_of, count_of, step_of}
 use Rattle.words.specs.Writes.{Write, ids_in, masks_in, values_in}
 use Rattle.words.specs.Commands.{header_at, param_at, run, expand}
 use Rattle.words.proofs.Laws.{run_length}
-use Rattle.commands.proofs.Runs.{param_later}
 
 module _ (l : List ℕ) (at : ℕ) where
   abbrev h : ℕ
@@ -41,19 +39,11 @@ module _ (l : List ℕ) (at : ℕ) where
   value_param (suc n) k i (suc m) p =
       let z : k + 1 + m ≡ k + suc m = omega arith in rw z at (value_param n (k + 1) (i + step_of h) m (omega arith))
 
-  -- the masks of a run as one list, and its values from the list's words, where it doesn't begin with the first parameter
+  -- the masks of a run as one list
   masks_run : (n k i : ℕ) → masks_in (run l at n k i) ≡ replicate n (mask_of h)
   unfolding run
   masks_run zero k i = refl
   masks_run (suc n) k i = ap (λ (x : List ℕ). mask_of h ∷ x) (masks_run n (k + 1) (i + step_of h))
-
-  values_run : (n k i j : ℕ) → 0 < k → j ≡ at + 1 + k → j + n ≤ length l → values_in (run l at n k i) ≡ take n (drop j l)
-  unfolding run
-  values_run zero k i j p e q = refl
-  values_run (suc n) k i j p e q =
-      let z : suc j ≡ j + 1 = omega arith in
-      let v = param_later l at k j p e in
-      rw (drop-cons l j 0 (omega arith), z, ← values_run n (k + 1) (i + step_of h) (j + 1) (omega arith) (omega arith) (omega arith), v)
 
   -- A COMMAND
   abbrev E : List Write
@@ -79,14 +69,6 @@ module _ (l : List ℕ) (at : ℕ) where
       let z : 0 + j ≡ j = omega arith in
       let e = value_param (count_of h + 1) 0 (id_of h) j (omega arith) in
       sym (rw z at e)
-
-  values_are : at + 2 + count_of h ≤ length l → values_in E ≡ get_or l at 0 ∷ take (count_of h) (drop (at + 2) l)
-  unfolding run
-  values_are r =
-      let n : count_of h + 1 ≡ suc (count_of h) = omega arith in
-      rw n
-      (ap (λ (x : List ℕ). get_or l at 0 ∷ x)
-      (values_run (count_of h) (0 + 1) (id_of h + step_of h) (at + 2) (omega arith) (omega arith) (omega arith)))
 
   -- A ROW AS IT IS PUT, into a buffer from place k on: the next word of it, in its place p
   module _ (f : Write → ℕ) (old : List ℕ) (k : ℕ) (room : k + (count_of h + 1) ≤ length old) where
@@ -118,18 +100,6 @@ module _ (l : List ℕ) (at : ℕ) where
     masks_filled e new p q =
         put_mid-paste k e old new (masks_in E) (count_of h + 1) (q ∙ rw p (sym (masks_run (count_of h + 1) 0 (id_of h)))) (sym p)
         (sym (row_long (λ (w : Write). w.mask)))
-
-    -- values, copied in behind the first
-    pub values_copied : (e : ℕ) (start new : List ℕ) → at + 2 + count_of h ≤ length l → e ≡ count_of h
-        → start ≡ paste old k (values_in E) 1 → new ≡ take e (drop (at + 2) l)
-        → put_mid (k + 1) e start new ≡ paste old k (values_in E) (count_of h + 1)
-    values_copied e start new r p s q =
-        let c = count_of h in
-        let xs = take c (drop (at + 2) l) in
-        let n : c ≡ length xs = sym (length-take c (drop (at + 2) l) ∙ omega (arith, length-drop (at + 2) l)) in
-        let z : 1 + c ≡ c + 1 = omega arith in
-        put_mid-paste (k + 1) e start new xs c (q ∙ rw p) (sym p) n
-        ∙ rw (s, values_are r) (paste-paste old k (get_or l at 0 ∷ []) xs 1 c refl n (omega arith) ∙ rw z)
 
   -- THE THREE ROWS TOGETHER: its first j writes stand in the buffers from place k on
   pub record Put (k j : ℕ) (is₀ ms₀ vs₀ is ms vs : List ℕ) : Type 0 where

@@ -36,9 +36,7 @@ fn put_masks(list: &[u32], at: usize, masks: &mut [u32], k: usize)
     masks[k..k + n].fill(h.mask);
 }
 
-// Their values: the first stands before the header, the others after it. It stays a call of its own: within `put_command` the copy would
-// cost the short commands.
-#[inline(never)]
+// Their values: the first stands before the header, the others after it.
 fn put_values(list: &[u32], at: usize, values: &mut [u32], k: usize)
     requires { CommandFits list.now at values.old k }
     ensures { values.new ≡ with_row values_in list.now at values.old k }
@@ -46,7 +44,9 @@ fn put_values(list: &[u32], at: usize, values: &mut [u32], k: usize)
     let h = words::parts(list[at + 1]);
     let n = h.count as usize + 1;
     values[k] = list[at];
-    values[k + 1..k + n].copy_from_slice(&list[at + 2..at + 1 + n]);
+    for j in 1..n {
+        values[k + j] = list[at + 1 + j];
+    }
 }
 
 // The writes of a short command, one after another.

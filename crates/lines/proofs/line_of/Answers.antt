@@ -1,13 +1,11 @@
 -- `lines::line_of` meets its contract, by the verdict on the words and by what `line_for` ensures. Assumes nothing.
 use mathlib.Core.Path.{◌≡◌, sym, ap, ◌∙◌}
-use native.Mathlib.Omega.{arith}
-use lib.Seq.{length-take-le}
 use Rattle.reader.specs.ListVerdict.{verdict}
 use Rattle.reader.specs.Read.{told}
 use Rattle.lines.specs.Lines.{line_for, line_of}
 use Rattle.lines.specs.Text.{ascii}
 use Rattle.lines.proofs.Text.{put_first}
-use Rattle.lines.proofs.Inputs.{list_fits, line_of_list, line_of_other}
+use Rattle.lines.proofs.Inputs.{line_of_list, line_of_other}
 use Rattle.lines.proofs.line_of.Goals as goal
 
 pub returns-then-bytes : goal.returns-then-bytes

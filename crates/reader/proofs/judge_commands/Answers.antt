@@ -90,7 +90,7 @@ returns-in_default c =
     let h = c.head_at-head.ensures.answer in
     let s = short_of l at _ (sym h ∙ c.in_default.is) in
     let r : c.in_default.field-0 ≡ record { reason = WordsMissing; place = at } = cc (c.in_default.is, h, head_short l at s) in
-    let m : c.map.result ≡ Err c.in_default.field-0 = search rules in
+    let m : c.map_or.result ≡ Err c.in_default.field-0 = search rules in
     rw (m, r) (sym (judge_short l at c.commands.n c.if-list-at.false s) ∙ c.commands.invariant.2)
 
 pub returns-in-Some : goal.returns-in-Some
