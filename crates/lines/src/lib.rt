@@ -1,14 +1,55 @@
 // The small program's line: the bytes of an input read as words, and the verdict on them as text. The contracts cite specs/Lines.antt.
 #![tactic(auto)]
 
-ghost use Rattle.std.specs.Prelude.{◌≡◌, ◌+◌, ◌*◌, ◌/◌, ◌≤◌, length, take};
+ghost use Rattle.std.specs.Prelude.{◌≡◌, ◌+◌, ◌*◌, ◌/◌, ◌≤◌, ℕ, length, take};
 ghost use Rattle.numbers.specs.Answer.{answered, refused};
-ghost use Rattle.reader.specs.Read.{told};
+ghost use Rattle.words.specs.Reasons.{number_of};
 ghost use Rattle.lines.specs.Text.{decimal, over, Put};
-ghost use Rattle.lines.specs.Lines.{words_in, line_for, line_of};
+ghost use Rattle.lines.specs.Lines.{told_by, words_in, line_for, line_of};
 
 use itoa::Buffer;
 use words::Refusal;
+
+// What refuses by a number at a place: a `Refusal`, or any number, also one that no `Reason` has, with a place.
+pub trait Refuses {
+    ghost number: { Self → ℕ };
+
+    ghost place: { Self → ℕ };
+
+    fn number(&self) -> u32
+        ensures { result ≡ number self.now };
+
+    fn place(&self) -> usize
+        ensures { result ≡ place self.now };
+}
+
+impl Refuses for Refusal {
+    ghost number = { λ r. number_of r.reason };
+
+    ghost place = { λ r. r.place };
+
+    fn number(&self) -> u32 {
+        u32::from(self.reason)
+    }
+
+    fn place(&self) -> usize {
+        self.place
+    }
+}
+
+impl Refuses for (u32, usize) {
+    ghost number = { λ t. t.0 };
+
+    ghost place = { λ t. t.1 };
+
+    fn number(&self) -> u32 {
+        self.0
+    }
+
+    fn place(&self) -> usize {
+        self.1
+    }
+}
 
 // Puts a text at `at`, and answers the place after it.
 fn put_text(line: &mut [u8], at: usize, text: &[u8]) -> usize
@@ -52,13 +93,14 @@ pub fn put_refused(line: &mut [u8; 64], number: u32, place: usize) -> usize
     put_text(line, d, b"\n")
 }
 
-// The line that gives a verdict, at the start of the lent space; answers how many bytes it has. The space past it keeps its contents.
-pub fn line_for(verdict: Result<usize, Refusal>, line: &mut [u8; 64]) -> usize
-    ensures { Put line.old (line_for (told verdict)) result line.new }
+// The line that gives a verdict, at the start of the lent space; answers how many bytes it has. The space past it keeps its contents. Where
+// nothing tells what would refuse, as of a bare `Ok(n)`, the call names it: `line_for::<Refusal>`.
+pub fn line_for<R: Refuses + Drop>(verdict: Result<usize, R>, line: &mut [u8; 64]) -> usize
+    ensures { Put line.old (line_for (told_by R.number R.place verdict)) result line.new }
 {
     match verdict {
         Ok(n) => put_ok(line, n),
-        Err(r) => put_refused(line, u32::from(r.reason), r.place),
+        Err(r) => put_refused(line, r.number(), r.place()),
     }
 }
 

@@ -173,7 +173,8 @@ fn take_word(p: Progress, state: &mut Lent<'_>, table: &HeldTable, x: u32) -> Ta
 }
 
 // Writes to ids from `h.id` on, one for each of the `h.count` values that stand in `list` from `from` on: how many of them made a
-// difference. To a port's data every write does.
+// difference. To a port's data every write does. While ids rise the buffers' places are kept in locals: by way of `state` they would be
+// loaded anew for each write.
 fn put_run(state: &mut Lent<'_>, table: &HeldTable, h: Header, list: &[u32], from: usize) -> u32
     requires id_bound { (h.id ≤ 0x20000) × (h.count < 256) × (h.step ≤ 1) × (from + h.count ≤ length list.now) }
     ensures same { buffers state.new ≡ buffers state.old }
@@ -199,10 +200,14 @@ fn put_run(state: &mut Lent<'_>, table: &HeldTable, h: Header, list: &[u32], fro
     }
     let mask = h.mask;
     let bytes = ports::spread_mask(mask);
+    let cells = &mut *state.cells;
+    let fog = &mut *state.fog;
+    let light = &mut *state.light;
+    let mut own = Lent { cells, fog, light };
     let mut n: u32 = 0;
     for k in 0..h.count {
         let value = list[from + k as usize];
-        n = state.put_one(table, id + k, bytes, value, n);
+        n = own.put_one(table, id + k, bytes, value, n);
     }
     n
 }

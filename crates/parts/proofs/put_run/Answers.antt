@@ -103,7 +103,7 @@ loop-k-preserved c =
     let a = c.args in
     let h = a.h in
     let p = rw c.spread_mask-bytes.ensures at c.put_one-n.ensures in
-    let s = lent o.state in
+    let s = lent o.own in
     let j : a.from + (o.k + 1) ≡ a.from + o.k + 1 = omega arith in
     let r : h.count - (o.k + 1) ≡ h.count - o.k - 1 = omega arith in
     let i : h.id + (o.k + 1) ≡ h.id + o.k + 1 = omega arith in
@@ -120,12 +120,12 @@ returns c =
     let o = c.loop-k in
     let a = c.args in
     let h = a.h in
-    let s = lent o.state in
+    let s = lent o.own in
     let one : h.step ≡ 1 = omega (arith, c.requires.id_bound.2, c.if-h-eq0.false) in
     let z = run_counted a.list.now h.mask s (a.from + o.k) (h.count - o.k) (h.id + o.k) 1 (omega arith) in
     let d = run_applied a.list.now h.mask s (a.from + o.k) (h.count - o.k) (h.id + o.k) 1 (omega arith) in
     record {
-      same = o.invariant.0;
+      same = refl;
       count = rw one ((omega (arith, z, o.invariant.3), omega (arith, o.invariant.1)));
       state = rw one (sym d ∙ o.invariant.2);
     }

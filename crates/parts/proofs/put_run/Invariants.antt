@@ -9,10 +9,10 @@ use Rattle.parts.proofs.put_run.Given as goal
 
 abbrev pub invariant-loop-k : goal.invariant-loop-k
 invariant-loop-k l =
-    (buffers l.state ≡ buffers l.initial.state) × (l.n ≤ l.k)
-    × (apply_all (lent l.state) (run_from l.list (l.from + l.k) (l.fn.h.count - l.k) (l.id + l.k) l.mask 1) ≡ apply_all
-    (lent l.initial.state)
+    (buffers l.own ≡ buffers l.initial.own) × (l.n ≤ l.k)
+    × (apply_all (lent l.own) (run_from l.list (l.from + l.k) (l.fn.h.count - l.k) (l.id + l.k) l.mask 1) ≡ apply_all
+    (lent l.initial.own)
     (run_from l.list l.from l.fn.h.count l.id l.mask 1))
-    × (l.n + differences (lent l.state) (run_from l.list (l.from + l.k) (l.fn.h.count - l.k) (l.id + l.k) l.mask 1) ≡ differences
-    (lent l.initial.state)
+    × (l.n + differences (lent l.own) (run_from l.list (l.from + l.k) (l.fn.h.count - l.k) (l.id + l.k) l.mask 1) ≡ differences
+    (lent l.initial.own)
     (run_from l.list l.from l.fn.h.count l.id l.mask 1))
