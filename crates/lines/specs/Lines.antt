@@ -1,6 +1,6 @@
 -- What the small program prints: "`ok N` or `refused R at P`; longer input, or bytes that aren't a multiple of four, prints
 -- `input`. Each is one line with a newline, numbers in decimal."
-use Rattle.std.specs.Prelude.{Result, Ok, Err, Bool, ◌&&◌, List, [], ◌∷◌, ◌++◌, ℕ, zero, suc, ◌+◌, ◌*◌, ◌/◌, ◌%◌, leb, eqb, length, get_or}
+use Rattle.std.specs.Prelude.{Bool, ◌&&◌, List, [], ◌∷◌, ◌++◌, ℕ, zero, suc, ◌+◌, ◌*◌, ◌/◌, ◌%◌, leb, eqb, length, get_or}
 use Rattle.numbers.specs.Answer.{Answer, answered, refused}
 use Rattle.numbers.specs.Pick.{pick}
 use Rattle.reader.specs.ListVerdict.{verdict}
@@ -19,11 +19,6 @@ first_words bytes (suc n) = first_words bytes n ++ (word_at bytes n ∷ [])
 -- all of them
 abbrev pub words_in : List ℕ → List ℕ
 words_in bytes = first_words bytes (length bytes / 4)
-
--- an answer that is a number, or what refuses, whose number and place the two functions tell; for a `Refusal` it is `told` (`told_by_refusal`)
-abbrev pub told_by : {R : Type 0} → (R → ℕ) → (R → ℕ) → Result ℕ R → Answer
-told_by number place (Ok n) = answered n
-told_by number place (Err r) = refused (number r) (place r)
 
 -- the line that gives an answer
 abbrev pub line_for : Answer → List ℕ

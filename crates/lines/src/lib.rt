@@ -1,55 +1,14 @@
 // The small program's line: the bytes of an input read as words, and the verdict on them as text. The contracts cite specs/Lines.antt.
 #![tactic(auto)]
 
-ghost use Rattle.std.specs.Prelude.{◌≡◌, ◌+◌, ◌*◌, ◌/◌, ◌≤◌, ℕ, length, take};
+ghost use Rattle.std.specs.Prelude.{◌≡◌, ◌+◌, ◌*◌, ◌/◌, ◌≤◌, length, take};
 ghost use Rattle.numbers.specs.Answer.{answered, refused};
-ghost use Rattle.words.specs.Reasons.{number_of};
+ghost use Rattle.words.specs.Reasons.{told_by};
 ghost use Rattle.lines.specs.Text.{decimal, over, Put};
-ghost use Rattle.lines.specs.Lines.{told_by, words_in, line_for, line_of};
+ghost use Rattle.lines.specs.Lines.{words_in, line_for, line_of};
 
 use itoa::Buffer;
-use words::Refusal;
-
-// What refuses by a number at a place: a `Refusal`, or any number, also one that no `Reason` has, with a place.
-pub trait Refuses {
-    ghost number: { Self → ℕ };
-
-    ghost place: { Self → ℕ };
-
-    fn number(&self) -> u32
-        ensures { result ≡ number self.now };
-
-    fn place(&self) -> usize
-        ensures { result ≡ place self.now };
-}
-
-impl Refuses for Refusal {
-    ghost number = { λ r. number_of r.reason };
-
-    ghost place = { λ r. r.place };
-
-    fn number(&self) -> u32 {
-        u32::from(self.reason)
-    }
-
-    fn place(&self) -> usize {
-        self.place
-    }
-}
-
-impl Refuses for (u32, usize) {
-    ghost number = { λ t. t.0 };
-
-    ghost place = { λ t. t.1 };
-
-    fn number(&self) -> u32 {
-        self.0
-    }
-
-    fn place(&self) -> usize {
-        self.1
-    }
-}
+use words::Refuses;
 
 // Puts a text at `at`, and answers the place after it.
 fn put_text(line: &mut [u8], at: usize, text: &[u8]) -> usize

@@ -8,7 +8,10 @@ use native.Mathlib.Omega.{arith}
 use lib.Dec.{ltb, eqb}
 use lib.ListN.{length}
 use borrow.Author.Tests.{ltb-true, ltb-false, lt-ltb, le-ltb, le-leb, lt-leb, eq-eqb, ne_eqb}
+use Rattle.std.specs.Prelude.{Result, Ok, Err}
 use Rattle.numbers.specs.Pick.{pick}
+use Rattle.words.specs.declared.Refusal.{Refusal}
+use Rattle.words.specs.Reasons.{number_of, told, told_by}
 use Rattle.words.specs.Header.{mask_of, count_of, step_of, words_of, adds_of}
 use Rattle.words.specs.Writes.{Write, writing, kept, jumps, port_data, allowed, fault_of}
 use Rattle.words.specs.Commands.{header_at, param_at, whole, run, expand, places, commands, join, all_writes, expansion, full, well_formed}
@@ -178,3 +181,10 @@ reach false i m t = let h = ltb-false 0x2FF i t in rw (le-leb i 0x2FF h) (port (
 pub allowed_fault : (i m : ℕ) → allowed i m ≡ eqb (fault_of i m) 0
 unfolding fault_of
 allowed_fault i m = reach (ltb 0x2FF i) i m refl
+
+-- WHAT REFUSES
+
+-- a `Refusal` is told as `told` says
+pub told_by_refusal : (v : Result ℕ Refusal) → told_by (λ r. number_of r.reason) (λ r. r.place) v ≡ told v
+told_by_refusal (Ok n) = refl
+told_by_refusal (Err r) = refl

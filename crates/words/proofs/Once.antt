@@ -5,7 +5,10 @@ use Rattle.numbers.specs.Pick.{pick}
 use Prim.Native.Nat.{ℕ}
 use native.Mathlib.Omega.{arith}
 use contract.Lifetimes.{Lfts}
+use mir.Syntax.{Dict}
 use borrow.Fn.Kinds.{Dens}
+use denote.RattleType.{RattleType}
+use denote.Param.Laws.{Laws}
 use Rattle.numbers.specs.Settled.{Settles, settled}
 use Rattle.words.specs.Writes.{fault_of}
 use Rattle.words.specs.Header.{words_with}
@@ -16,12 +19,28 @@ use Rattle.words.specs.Reasons.{number_of, numbered, told}
 use Rattle.words.specs.declared.Reason.{Reason}
 use Rattle.words.specs.declared.Reason.TheVariants as reason
 use Rattle.words.specs.declared.Refusal.{Refusal}
+use Rattle.words.specs.declared.Refuses.{Ghosts}
+use Rattle.std.specs.declared.convert.From.{Ghosts as From}
 use Rattle.words.proofs.parts.Reads as parts_reads
 use Rattle.words.proofs.parts.Kinds as parts_kinds
 use Rattle.words.proofs.words_taken.Reads as words_taken_reads
 use Rattle.words.proofs.words_taken.Kinds as words_taken_kinds
 use Rattle.words.proofs.refusal_in.Reads as refusal_in_reads
 use Rattle.words.proofs.refusal_in.Kinds as refusal_in_kinds
+use Rattle.words.proofs.RefusalRefuses.number.Reads as number_reads
+use Rattle.words.proofs.RefusalRefuses.number.Kinds as number_kinds
+use Rattle.words.proofs.RefusalRefuses.place.Reads as place_reads
+use Rattle.words.proofs.RefusalRefuses.place.Kinds as place_kinds
+use Rattle.words.proofs.Tuple2U32UsizeRefuses.number.Reads as pair_number_reads
+use Rattle.words.proofs.Tuple2U32UsizeRefuses.number.Kinds as pair_number_kinds
+use Rattle.words.proofs.Tuple2U32UsizeRefuses.place.Reads as pair_place_reads
+use Rattle.words.proofs.Tuple2U32UsizeRefuses.place.Kinds as pair_place_kinds
+use Rattle.words.proofs.RefusalRefuses.at.Reads as at_reads
+use Rattle.words.proofs.RefusalRefuses.at.Kinds as at_kinds
+use Rattle.words.proofs.Tuple2U32UsizeRefuses.at.Reads as pair_at_reads
+use Rattle.words.proofs.Tuple2U32UsizeRefuses.at.Kinds as pair_at_kinds
+use Rattle.words.proofs.Tuple2U32UsizeFromRefusal.from.Reads as pair_reads
+use Rattle.words.proofs.Tuple2U32UsizeFromRefusal.from.Kinds as pair_kinds
 use Rattle.words.proofs.head_at.Reads as head_at_reads
 use Rattle.words.proofs.head_at.Kinds as head_at_kinds
 use Rattle.words.proofs.fault.Reads as fault_reads
@@ -104,8 +123,37 @@ parts_settled κs a =
 pub words_taken_settled : (κs : Lfts 0) (a : Dens κs words_taken_kinds.ps) → Settles (λ e. tt {0}) (words_taken_reads.Post κs a)
 words_taken_settled κs a = settled _ _ (λ r. r) (λ r r' e. e) (words_with a.0.count) tt (λ r e p. (p, refl))
 
-pub refusal_in_settled : (κs : Lfts 0) (a : Dens κs refusal_in_kinds.ps) → Settles (λ e. tt {0}) (refusal_in_reads.Post κs a)
-refusal_in_settled κs a = settled _ _ (λ r. r) (λ r r' e. e) (refusal_in a.0) tt (λ r e p. (p, refl))
+-- for whatever refuses
+pub refusal_in_settled : (R : RattleType) (l : Laws R) (g : Ghosts R.Denot) (d : Dict) (f : From R.Denot Refusal) (d' d'' : Dict)
+    (κs : Lfts 1) (a : Dens κs (refusal_in_kinds.ps R l)) → Settles (λ e. tt {0}) (refusal_in_reads.Post R l g d f d' d'' κs a)
+refusal_in_settled R l g d f d' d'' κs a = settled _ _ (λ r. r) (λ r r' e. e) (refusal_in a.0) tt (λ r e p. (p, refl))
 
 pub fault_settled : (κs : Lfts 0) (a : Dens κs fault_kinds.ps) → Settles (λ e. tt {0}) (fault_reads.Post κs a)
 fault_settled κs a = settled _ _ numbered numbered_one (fault_of a.0 a.1.0) tt (λ r e p. (p, refl))
+
+-- what refuses: a `Refusal`, and a pair
+
+pub number_settled : (κs : Lfts 1) (a : Dens κs number_kinds.ps) → Settles (λ e. tt {0}) (number_reads.Post κs a)
+number_settled κs a = settled _ _ (λ r. r) (λ r r' e. e) (number_of a.0.now.reason) tt (λ r e p. (p, refl))
+
+pub place_settled : (κs : Lfts 1) (a : Dens κs place_kinds.ps) → Settles (λ e. tt {0}) (place_reads.Post κs a)
+place_settled κs a = settled _ _ (λ r. r) (λ r r' e. e) a.0.now.place tt (λ r e p. (p, refl))
+
+pub pair_number_settled : (κs : Lfts 1) (a : Dens κs pair_number_kinds.ps) → Settles (λ e. tt {0}) (pair_number_reads.Post κs a)
+pair_number_settled κs a = settled _ _ (λ r. r) (λ r r' e. e) a.0.now.0 tt (λ r e p. (p, refl))
+
+pub pair_place_settled : (κs : Lfts 1) (a : Dens κs pair_place_kinds.ps) → Settles (λ e. tt {0}) (pair_place_reads.Post κs a)
+pair_place_settled κs a = settled _ _ (λ r. r) (λ r r' e. e) a.0.now.1 tt (λ r e p. (p, refl))
+
+pub at_settled : (κs : Lfts 0) (a : Dens κs at_kinds.ps) → Settles (λ e. tt {0}) (at_reads.Post κs a)
+at_settled κs a = settled _ _ (λ r. r) (λ r r' e. e) (record { reason = a.0.reason; place = a.1.0 }) tt (λ r e p. (p, refl))
+
+pub pair_at_settled : (κs : Lfts 0) (a : Dens κs pair_at_kinds.ps) → Settles (λ e. tt {0}) (pair_at_reads.Post κs a)
+pair_at_settled κs a = settled _ _ (λ r. r) (λ r r' e. e) (a.0.0, a.1.0) tt (λ r e p. (p, refl))
+
+-- a pair is its two numbers
+pair_one : (t : ℕ × ℕ) (n p : ℕ) → (t.0 ≡ n) × (t.1 ≡ p) → t ≡ (n, p)
+pair_one t n p e = ap (λ x. (x, t.1)) e.0 ∙ ap (λ y. (n, y)) e.1
+
+pub pair_settled : (κs : Lfts 0) (a : Dens κs pair_kinds.ps) → Settles (λ e. tt {0}) (pair_reads.Post κs a)
+pair_settled κs a = settled _ _ (λ r. r) (λ r r' e. e) (number_of a.0.reason, a.0.place) tt (λ r e p. (pair_one r _ _ p, refl))

@@ -31,3 +31,8 @@ numbered (Some r) = number_of r
 abbrev pub told : Result ℕ Refusal → Answer
 told (Ok n) = answered n
 told (Err r) = refused (number_of r.reason) r.place
+
+-- the same of whatever refuses, whose number and place the two functions tell
+abbrev pub told_by : {R : Type 0} → (R → ℕ) → (R → ℕ) → Result ℕ R → Answer
+told_by number place (Ok n) = answered n
+told_by number place (Err r) = refused (number r) (place r)

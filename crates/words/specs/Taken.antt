@@ -26,6 +26,6 @@ head_numbers l at =
     pick (whole l at) (0 ∷ id_of h ∷ mask_of h ∷ count_of h ∷ step_of h ∷ []) (2 ∷ at ∷ [])
 
 -- the refusal that an answer holds; none where the header was taken apart
-abbrev pub refusal_in : Result Header Refusal → Option Refusal
+abbrev pub refusal_in : {R : Type 0} → Result Header R → Option R
 refusal_in (Ok h) = None
 refusal_in (Err r) = Some r

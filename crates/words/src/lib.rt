@@ -2,7 +2,9 @@
 // The contracts cite specs/Header.antt, specs/Taken.antt and specs/Writes.antt.
 #![tactic(auto)]
 
-ghost use Rattle.std.specs.Prelude.{◌≡◌};
+ghost use Rattle.std.specs.Prelude.{◌≡◌, refl, ℕ};
+ghost use mathlib.Core.Path.{ap};
+ghost use Rattle.words.specs.declared.Refusal.{Refusal};
 ghost use Rattle.words.specs.Header.{id_of, mask_of, count_of, step_of, words_with};
 ghost use Rattle.words.specs.Taken.{head_of, told, head_numbers, refusal_in};
 ghost use Rattle.words.specs.Reasons.{number_of, numbered};
@@ -41,6 +43,96 @@ impl From<Reason> for u32 {
 pub struct Refusal {
     pub reason: Reason,
     pub place: usize,
+}
+
+// A refusal as its number and its place.
+impl From<Refusal> for (u32, usize) {
+    ghost from_gives = { λ r t. (t.0 ≡ number_of r.reason) × (t.1 ≡ r.place) };
+
+    fn from(r: Refusal) -> (u32, usize) {
+        (u32::from(r.reason), r.place)
+    }
+}
+
+// What refuses by a number at a place: a `Refusal`, or any number, also one that no `Reason` has, with a place. Each kind can be made of
+// every `Refusal`, with its number and place (law `says`), so that `?` hands one on as any of them.
+pub trait Refuses: From<Refusal> {
+    ghost number: { Self → ℕ };
+
+    ghost place: { Self → ℕ };
+
+    ghost moved: { Self → ℕ → Self };
+
+    fn number(&self) -> u32
+        ensures { result ≡ number self.now };
+
+    fn place(&self) -> usize
+        ensures { result ≡ place self.now };
+
+    // The same at another place, as where a list is a part of another.
+    fn at(self, other: usize) -> Self
+        ensures { result ≡ moved self other };
+
+    ghost stays: { (r : Self) → moved r (place r) ≡ r };
+
+    ghost moves: { (r : Self) (p : ℕ) → (number (moved r p) ≡ number r) × (place (moved r p) ≡ p) };
+
+    ghost says: { (x : Refusal) (r : Self) → Self.from_gives x r → (number r ≡ number_of x.reason) × (place r ≡ x.place) };
+}
+
+impl Refuses for Refusal {
+    ghost number = { λ r. number_of r.reason };
+
+    ghost place = { λ r. r.place };
+
+    ghost moved = { λ r p. record { reason = r.reason; place = p } };
+
+    ghost stays = { λ r. refl };
+
+    ghost moves = { λ r p. (refl, refl) };
+
+    ghost says = { λ x r e. (ap (λ q. number_of q.reason) e, ap (λ q. q.place) e) };
+
+    fn number(&self) -> u32 {
+        u32::from(self.reason)
+    }
+
+    fn place(&self) -> usize {
+        self.place
+    }
+
+    fn at(self, other: usize) -> Refusal {
+        Refusal {
+            place: other,
+            ..self
+        }
+    }
+}
+
+impl Refuses for (u32, usize) {
+    ghost number = { λ t. t.0 };
+
+    ghost place = { λ t. t.1 };
+
+    ghost moved = { λ t p. (t.0, p) };
+
+    ghost stays = { λ t. refl };
+
+    ghost moves = { λ t p. (refl, refl) };
+
+    ghost says = { λ x t e. e };
+
+    fn number(&self) -> u32 {
+        self.0
+    }
+
+    fn place(&self) -> usize {
+        self.1
+    }
+
+    fn at(self, other: usize) -> (u32, usize) {
+        (self.0, other)
+    }
 }
 
 // The parts of a header: count is the number of extra parameters, step 1 where ids rise.
@@ -96,8 +188,9 @@ pub fn head_at(list: &[u32], at: usize) -> Result<Header, Refusal>
     Ok(h)
 }
 
-// The refusal that an answer of `head_at` holds; none where the header was taken apart.
-pub fn refusal_in(head: Result<Header, Refusal>) -> Option<Refusal>
+// The refusal that an answer of `head_at` holds, or whatever refuses where a `Refusal` would stand; none where the header was taken apart.
+// Where nothing tells what would refuse, the call names it: `refusal_in::<Refusal>`.
+pub fn refusal_in<R: Refuses + Drop>(head: Result<Header, R>) -> Option<R>
     ensures { result ≡ refusal_in head }
 {
     head.err()
